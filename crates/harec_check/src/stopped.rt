@@ -9,7 +9,7 @@ use std::alloc::AllocError;
 pub enum Stopped {
     /// The program has a fault.
     Refused(Refusal),
-    /// The file with this number, counted from 0, was not read.
+    /// A file was not read. The number, counted from 0, is that of one of the paths.
     Unread(usize),
     /// There was not enough memory.
     Memory,

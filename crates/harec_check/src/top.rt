@@ -12,7 +12,8 @@ use hx_io::Files;
 use std::alloc::Global;
 
 /// The bytes of the files at these paths, in their order, where the program that they are is checked. Else it says why it is not: by the
-/// first fault of the program, with its line, by the first file that was not read, or by want of memory, where no file failed.
+/// first fault of the program, with its line; that a file was not read, with the number of one of the paths; or by want of memory, where no
+/// file failed.
 ///
 /// There are at most 65,536 paths. All files are read in their order before anything is checked, and no file is read behind one that
 /// failed. Of a file that does not tell its bytes nothing is said but that there are some by which its program was checked.

@@ -266,7 +266,19 @@ fn checks_of_several_files(rt: HostRuntime) -> Result<(), Fail> {
             "65||a.ha:1:1: E49 NotBuilt\n",
         ),
         (
+            "check a.ha b.ha",
+            ("a.ha", ""),
+            ("b.ha", "let x: u8 = 256;"),
+            "65||b.ha:1:13: E25 NotAssignable\n",
+        ),
+        (
             "check a.ha missing.ha",
+            ("a.ha", MAIN),
+            ("b.ha", ""),
+            "66||missing.ha: file fault\n",
+        ),
+        (
+            "check missing.ha",
             ("a.ha", MAIN),
             ("b.ha", ""),
             "66||missing.ha: file fault\n",

@@ -1,4 +1,4 @@
-//! Does what `harec` does on each line of the standard input, of which the words stand with a blank between them: the files are those of
+//! Does what `harec` does on each line of the standard input, of which the words stand with a blank between them, and which has none where it is empty: the files are those of
 //! the folder examples/, and the input is the same two lines for each. Of each line is printed the line as one would type it, what `harec`
 //! writes to its output and to its log, and the status.
 #![tactic(auto)]
@@ -54,6 +54,9 @@ fn status_of(rt: &HostRuntime, line: &str) -> Result<u8> {
 /// The words of a line.
 fn words(alloc: Global, line: &str) -> Result<Vec<Text>> {
     let mut words = Vec::new(alloc);
+    if line.is_empty() {
+        return Ok(words);
+    }
     for word in line.split(' ') {
         words.push(Text::copy(alloc, word)?)?;
     }
