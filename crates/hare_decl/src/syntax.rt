@@ -21,8 +21,8 @@ pub enum Syntax {
     Cut,
 }
 
-/// Reads the tokens of a file. Most files have low trees and no fault, and are read once. Of any other the depth is looked at, and it is
-/// read again: so no tree is built that passes a limit.
+/// Reads the tokens of a file. Most files have low trees and no fault, and are read once; that is given up where a tree becomes higher than
+/// 256. Of any other file the depth is looked at, and it is read again, so that no tree comes of it that passes a limit.
 pub fn syntax_of(alloc: Global, file: u32, tokens: &Tokens) -> Result<Syntax, AllocError>
     ensures value { IfOk result (λ s. spec.IsSyntax file tokens.now s) }
     ensures ended { IfOk result (λ s. spec.HasEnd tokens.now → s ≡ Syntax.Cut → ⊥) }
