@@ -187,11 +187,22 @@ keeps-answered : (h : Head) (ts : Nodes) (room r o : ℕ) (l : Bool) (lr o' : �
 keeps-answered h ts room r o l lr o' op k n b e eb s e1 e2 e3 e4 e5 =
     rw (e4, e5, e1, e2, e3) (sym (keeps-branch h ts room r o l (ap (λ x. x && nat_le 256 o) (sym eb) ∙ may-stand b o e) s))
 
-pub keeps-then : (h : Head) (ts : Nodes) (room r o : ℕ) (l : Bool) (lr o' : ℕ) (op k n b : Bool) → ((b ≡ true) × (o < 256)) ⊎ (b ≡ false) →
-    b ≡ is_node h.kind → counted h.kind + r ≡ room → lr ≡ left_room r h.kind → o' ≡ open_within o l h.kind → op ≡ is_operator h.kind →
-    k ≡ kid_keeps lr o' op ts → k ≡ true → n ≡ keep_low r o' false (nodes_from 1 ts) → n ≡ keeps_low room o l (branch h ts)
-keeps-then h ts room r o l lr o' op k n b e eb s e1 e2 e3 e4 kt e5 =
-    rw kt at (keeps-answered h ts room r o l lr o' op k n b e eb s e1 e2 e3 e4 e5)
+-- what is known of a tree that may stand where it stands, once its first kid has been found to keep the limits
+pub record IsAnswered (h : Head) (ts : Nodes) (room r o : ℕ) (l : Bool) (lr o' : ℕ) (op k n b : Bool) : Type 0 where
+  pub stands : ((b ≡ true) × (o < 256)) ⊎ (b ≡ false)
+  pub node : b ≡ is_node h.kind
+  pub within : counted h.kind + r ≡ room
+  pub left : lr ≡ left_room r h.kind
+  pub opened : o' ≡ open_within o l h.kind
+  pub operator : op ≡ is_operator h.kind
+  pub first : k ≡ kid_keeps lr o' op ts
+  pub keeps : k ≡ true
+  pub others : n ≡ keep_low r o' false (nodes_from 1 ts)
+
+pub keeps-then : (h : Head) (ts : Nodes) (room r o : ℕ) (l : Bool) (lr o' : ℕ) (op k n b : Bool) →
+    IsAnswered h ts room r o l lr o' op k n b → n ≡ keeps_low room o l (branch h ts)
+keeps-then h ts room r o l lr o' op k n b a =
+    rw a.keeps at (keeps-answered h ts room r o l lr o' op k n b a.stands a.node a.within a.left a.opened a.operator a.first a.others)
 
 pub keeps-else : (h : Head) (ts : Nodes) (room r o : ℕ) (l : Bool) (lr o' : ℕ) (op k b : Bool) → ((b ≡ true) × (o < 256)) ⊎ (b ≡ false) →
     b ≡ is_node h.kind → counted h.kind + r ≡ room → lr ≡ left_room r h.kind → o' ≡ open_within o l h.kind → op ≡ is_operator h.kind →

@@ -606,23 +606,40 @@ at-optional room h s at ps bs fs kids r j ef eb ej er =
     rw (er, ej, ef, eb, nodes_from-tail at.kid kids)
     (piece-optional room h s at ps kids (nodes_from at.kid kids) (nodes_from-tail at.kid kids))
 
+-- what is known at a kid that a sign leads: the pieces, the place with its ends, and what the kid's judgement gives
+pub record IsAtLed (room : ℕ) (a : Sign) (s : Sort) (at at' : At) (ps bs fs : List Piece) (kids : Nodes) (r : Option Step)
+    (j : Option At) : Type 0 where
+  pub form : fs ≡ pi.Led a s ∷ ps
+  pub behind : bs ≡ ps
+  pub same_kid : at'.kid ≡ at.kid
+  pub else_ends : at'.ends.before_else ≡ (at.ends.before_else && not (is_sign a si.Else))
+  pub comma_ends : at'.ends.before_comma ≡ (at.ends.before_comma && not (is_sign a si.Comma))
+  pub judgement : j ≡ judged_optional room s (behind_kid bs (edges (nodes_from (at'.kid + 1) kids))) at' (nodes_from at'.kid kids)
+  pub answer : r ≡ option_map st.Next j
+
 pub at-led : (room : ℕ) (h : Head) (a : Sign) (s : Sort) (at at' : At) (ps bs fs : List Piece) (kids : Nodes) (r : Option Step)
-    (j : Option At) → fs ≡ pi.Led a s ∷ ps → bs ≡ ps → at'.kid ≡ at.kid →
-    at'.ends.before_else ≡ (at.ends.before_else && not (is_sign a si.Else)) →
-    at'.ends.before_comma ≡ (at.ends.before_comma && not (is_sign a si.Comma)) →
-    j ≡ judged_optional room s (behind_kid bs (edges (nodes_from (at'.kid + 1) kids))) at' (nodes_from at'.kid kids) →
-    r ≡ option_map st.Next j → judged_behind room h ps kids r ≡ judged room h at.ends fs (nodes_from at.kid kids)
-at-led room h a s at at' ps bs fs kids r j ef eb ek e1 e2 ej er =
-    rw (er, ej, ef, eb, nodes_from-tail at'.kid kids, ← ek)
-    (piece-led room h a s at.ends at' ps kids (nodes_from at'.kid kids) (nodes_from-tail at'.kid kids) e1 e2)
+    (j : Option At) → IsAtLed room a s at at' ps bs fs kids r j →
+    judged_behind room h ps kids r ≡ judged room h at.ends fs (nodes_from at.kid kids)
+at-led room h a s at at' ps bs fs kids r j p =
+    rw (p.answer, p.judgement, p.form, p.behind, nodes_from-tail at'.kid kids, ← p.same_kid)
+    (piece-led room h a s at.ends at' ps kids (nodes_from at'.kid kids) (nodes_from-tail at'.kid kids) p.else_ends p.comma_ends)
+
+-- what is known at a value: the pieces, the place with its ends, and what the value's judgement gives
+pub record IsAtValue (room : ℕ) (h : Head) (s : Sort) (at at' : At) (ps bs fs : List Piece) (kids : Nodes) (r : Option Step)
+    (j : Option At) : Type 0 where
+  pub form : fs ≡ pi.Value s ∷ ps
+  pub behind : bs ≡ ps
+  pub same_kid : at'.kid ≡ at.kid
+  pub else_ends : at'.ends.before_else ≡ true
+  pub comma_ends : at'.ends.before_comma ≡ is_empty h.text
+  pub judgement : j ≡ judged_optional room s (behind_kid bs (edges (nodes_from (at'.kid + 1) kids))) at' (nodes_from at'.kid kids)
+  pub answer : r ≡ option_map st.Next j
 
 pub at-value : (room : ℕ) (h : Head) (s : Sort) (at at' : At) (ps bs fs : List Piece) (kids : Nodes) (r : Option Step) (j : Option At) →
-    fs ≡ pi.Value s ∷ ps → bs ≡ ps → at'.kid ≡ at.kid → at'.ends.before_else ≡ true → at'.ends.before_comma ≡ is_empty h.text →
-    j ≡ judged_optional room s (behind_kid bs (edges (nodes_from (at'.kid + 1) kids))) at' (nodes_from at'.kid kids) →
-    r ≡ option_map st.Next j → judged_behind room h ps kids r ≡ judged room h at.ends fs (nodes_from at.kid kids)
-at-value room h s at at' ps bs fs kids r j ef eb ek e1 e2 ej er =
-    rw (er, ej, ef, eb, nodes_from-tail at'.kid kids, ← ek)
-    (piece-value room h s at.ends at' ps kids (nodes_from at'.kid kids) (nodes_from-tail at'.kid kids) e1 e2)
+    IsAtValue room h s at at' ps bs fs kids r j → judged_behind room h ps kids r ≡ judged room h at.ends fs (nodes_from at.kid kids)
+at-value room h s at at' ps bs fs kids r j p =
+    rw (p.answer, p.judgement, p.form, p.behind, nodes_from-tail at'.kid kids, ← p.same_kid)
+    (piece-value room h s at.ends at' ps kids (nodes_from at'.kid kids) (nodes_from-tail at'.kid kids) p.else_ends p.comma_ends)
 
 pub at-followed : (room : ℕ) (h : Head) (a : Sign) (s : Sort) (at : At) (ps fs : List Piece) (kids : Nodes) (r : Option Step)
     (j : Option At) → fs ≡ pi.Followed s a ∷ ps → j ≡ judged_followed room s at (nodes_from at.kid kids) → r ≡ option_map st.Next j →

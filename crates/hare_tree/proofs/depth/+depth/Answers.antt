@@ -32,9 +32,18 @@ keeps_limits-returns-in_default t c =
 
 pub keeps_limits-returns-then-kid_keeps : goal.keeps_limits-returns-then-kid_keeps
 keeps_limits-returns-then-kid_keeps t c =
-    keeps-then _ _ c.args.room c.in-Some.room c.args.opened c.args.is_left _ _ _ _ _ _ c.else-is_node.either c.is_node.ensures
-    c.in-Some.ensures c.left_room.ensures c.open_within-opened.ensures c.is_operator.ensures c.kid_keeps.ensures c.if-kid_keeps.true
-    c.others_keep.ensures
+    keeps-then _ _ c.args.room c.in-Some.room c.args.opened c.args.is_left _ _ _ _ _ _
+    (record {
+      stands = c.else-is_node.either;
+      node = c.is_node.ensures;
+      within = c.in-Some.ensures;
+      left = c.left_room.ensures;
+      opened = c.open_within-opened.ensures;
+      operator = c.is_operator.ensures;
+      first = c.kid_keeps.ensures;
+      keeps = c.if-kid_keeps.true;
+      others = c.others_keep.ensures;
+    })
     ∙ ap (keeps_low c.args.room c.args.opened c.args.is_left) c.t.view_is
 
 pub keeps_limits-returns-else-kid_keeps : goal.keeps_limits-returns-else-kid_keeps

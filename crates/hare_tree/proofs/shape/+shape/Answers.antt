@@ -119,8 +119,15 @@ judged_piece-returns-in-Optional t c =
 pub judged_piece-returns-in-Led : goal.judged_piece-returns-in-Led
 judged_piece-returns-in-Led t c =
     low.at-led c.args.room (head c.args.t.now) c.in-Led.c c.in-Led.s c.args.at c.led.result _ _ _ (kids_of c.args.t.now) _ _
-    (pieces-at c.args.form.now c.args.j _ _ c.requires c.in-Led.is) c.split_at.ensures.back c.led.ensures.kid c.led.ensures.before_else
-    c.led.ensures.before_comma c.judged_optional-in-Led.ensures c.next-in-Led.ensures
+    (record {
+      form = pieces-at c.args.form.now c.args.j _ _ c.requires c.in-Led.is;
+      behind = c.split_at.ensures.back;
+      same_kid = c.led.ensures.kid;
+      else_ends = c.led.ensures.before_else;
+      comma_ends = c.led.ensures.before_comma;
+      judgement = c.judged_optional-in-Led.ensures;
+      answer = c.next-in-Led.ensures;
+    })
 
 pub judged_piece-returns-in-Followed : goal.judged_piece-returns-in-Followed
 judged_piece-returns-in-Followed t c =
@@ -130,8 +137,15 @@ judged_piece-returns-in-Followed t c =
 pub judged_piece-returns-in-Value : goal.judged_piece-returns-in-Value
 judged_piece-returns-in-Value t c =
     low.at-value c.args.room (head c.args.t.now) c.in-Value.s c.args.at c.valued.result _ _ _ (kids_of c.args.t.now) _ _
-    (pieces-at c.args.form.now c.args.j _ _ c.requires c.in-Value.is) c.split_at.ensures.back c.valued.ensures.kid
-    c.valued.ensures.before_else c.valued.ensures.before_comma c.judged_optional-in-Value.ensures c.next-in-Value.ensures
+    (record {
+      form = pieces-at c.args.form.now c.args.j _ _ c.requires c.in-Value.is;
+      behind = c.split_at.ensures.back;
+      same_kid = c.valued.ensures.kid;
+      else_ends = c.valued.ensures.before_else;
+      comma_ends = c.valued.ensures.before_comma;
+      judgement = c.judged_optional-in-Value.ensures;
+      answer = c.next-in-Value.ensures;
+    })
 
 pub judged_piece-returns-in-Each : goal.judged_piece-returns-in-Each
 judged_piece-returns-in-Each t c =
