@@ -6,7 +6,7 @@ use Rattle.hare_tree.specs.declared.token.Token.{Token}
 use Rattle.hare_tree.specs.declared.tree.FileTree.{FileTree}
 use Rattle.hare_tree.specs.Spell.{spell_file}
 use Rattle.hare_tree.specs.Grammar.{Spells, files, IsOn, IsViable, IsDepthFault, IsFirstFault, IsFileTree, fault_at}
-use Rattle.hare_tree.proofs.Fitting.{fits_file_parts}
+use Rattle.hare_tree.proofs.Low.Fitting.{fits_file_parts}
 use Rattle.hare_nesting.proofs.LeastFault.Firsts.{viable_no_first, one_first}
 use Rattle.hare_decl.specs.Answers.{HasFault}
 

@@ -2,7 +2,7 @@
 use Rattle.std.proofs.Common.{◌≡◌, ℕ, suc, ◌<◌, List, [], ◌∷◌, length}
 use Rattle.hare_tree.specs.declared.token.Token.{Token}
 use Rattle.hare_tree.specs.Grammar.{files, IsDepthFault, IsFirstFault, IsFileTree, joined, StandsAt}
-use Rattle.hare_tree.proofs.Fitting.{fits_file_parts, file_fits}
+use Rattle.hare_tree.proofs.Low.Fitting.{fits_file_parts, file_fits}
 use Rattle.hare_automaton.specs.Engine.{Group, Outcome, Done, Fails, run, bottom}
 use Rattle.hare_automaton.specs.OneTree.{file_symbols}
 use Rattle.hare_automaton.proofs.Spelled.Files.{tokens_have_one_file}

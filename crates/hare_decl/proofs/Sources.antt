@@ -8,7 +8,7 @@ use Rattle.hare_tree.specs.Spell.{spell_file}
 use Rattle.hare_tree.specs.Shape.{has_no_suffix}
 use Rattle.hare_tree.specs.Grammar.{is_string, is_proper_string, string_at, joined_to, joined, unplaced, Spells}
 use Rattle.hare_tree.specs.Size.{string_bytes_in}
-use Rattle.hare_tree.proofs.Fitting.{fits_file_parts}
+use Rattle.hare_tree.proofs.Low.Fitting.{fits_file_parts}
 use Rattle.hare_tree.proofs.Counts.{shaped_files_are_small}
 use Rattle.hare_tree.proofs.Texts.{texts_are_spelled}
 use Rattle.hare_lex.specs.Order.{AreInOrder}

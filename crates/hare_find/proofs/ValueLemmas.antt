@@ -13,7 +13,7 @@ use Rattle.hare_tree.specs.Node.{Head, Node, Nodes, branch, none, more, head, ki
 use Rattle.hare_tree.specs.Forms.{form_of}
 use Rattle.hare_tree.specs.Levels.{operator_level, level, admits, sort_in}
 use Rattle.hare_tree.specs.Shape.{is_shaped, is_own, is_leaf, is_absent, is_none, is_none_or_comma, is_none_or_dots, are_kids, kid_pieces}
-use Rattle.hare_tree.proofs.ShapedKids.{shaped_admits}
+use Rattle.hare_tree.proofs.TreeKids.ShapedKids.{shaped_admits}
 use Rattle.hare_typed.specs.Typed.{TypedNode, marked, typed_nodes}
 use Rattle.hare_typed.specs.Erased.{erase_each}
 use Rattle.hare_rules.specs.Judged.{hands_on}

@@ -4,7 +4,7 @@ use Rattle.std.proofs.lemmas.List.Sums.{fold-append}
 use Rattle.std.proofs.lemmas.List.{length-append}
 use Rattle.hare_tree.specs.Node.{Head, Node, Nodes, branch, none, more, nodes_of}
 use Rattle.hare_tree.specs.Judged.{nodes_from}
-use Rattle.hare_tree.proofs.KidsFrom.{nodes_from-get, nodes_from-past}
+use Rattle.hare_tree.proofs.TreeKids.KidsFrom.{nodes_from-get, nodes_from-past}
 use Rattle.std.specs.Prelude.{slice_get, Some}
 use Rattle.hare_modules.specs.Directory.{Directory}
 use Rattle.hare_names.specs.declared.notes.Notes.{Notes}

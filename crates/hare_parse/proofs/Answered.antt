@@ -20,7 +20,7 @@ use Rattle.hare_prefixes.proofs.Completion.Viable.{end}
 use Rattle.hare_nesting.specs.Depth.{closed}
 use Rattle.hare_recogniser.specs.Limits.{IsFirstDepth, TreesFit}
 use Rattle.hare_ll_table.specs.Places.{IsPlace}
-use Rattle.hare_tree.proofs.Fitting.{fits_tree}
+use Rattle.hare_tree.proofs.Low.Fitting.{fits_tree}
 use Rattle.hare_ll_table.proofs.Places.{and_false, drop_to}
 use Rattle.hare_parse.proofs.Onward.{done_behind}
 use Rattle.hare_parse.specs.Answers.{IsRead, IsBroken, HasFault, fault_up_to}

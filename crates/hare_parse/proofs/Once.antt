@@ -7,7 +7,7 @@ use Rattle.hare_tree.specs.declared.stop.Stop.TheVariants.{Fault, Memory}
 use Rattle.hare_tree.specs.declared.form.Sort.{Sort}
 use Rattle.hare_tree.specs.Node.{Node}
 use Rattle.hare_tree.specs.Grammar.{Language, IsRun, IsTreeOf}
-use Rattle.hare_tree.proofs.Fitting.{fits_parts}
+use Rattle.hare_tree.proofs.Low.Fitting.{fits_parts}
 use Rattle.hare_nesting.proofs.LeastFault.Firsts.{viable_front, same_place}
 use Rattle.hare_parse.specs.declared.parse.Parsed.{Parsed}
 use Rattle.hare_parse.specs.Answers.{IsRead, HasFault, fault_up_to, file_in, IsParsed, Stops, GivesTree, GivesFault}

@@ -17,7 +17,7 @@ use Rattle.hare_tree.specs.Forms.{form_of}
 use Rattle.hare_tree.specs.Levels.{level, sort_in}
 use Rattle.hare_tree.specs.Shape.{is_shaped, are_kids, is_own, is_none, is_absent, is_leaf, is_none_or_comma, is_none_or_dots, kid_pieces}
 use Rattle.hare_tree.specs.KidSorts.{kid_sorts, kid_sort, IsKid}
-use Rattle.hare_tree.proofs.Behind.{pieces-at}
+use Rattle.hare_tree.proofs.TreeKids.Behind.{pieces-at}
 
 -- ---- the sorts of repeated kids
 

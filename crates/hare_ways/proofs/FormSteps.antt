@@ -10,7 +10,7 @@ use Rattle.hare_tree.specs.Node.{Head, Node, Nodes, more, head, kids_of}
 use Rattle.hare_tree.specs.Spell.{Spelled, spells, piece_tokens, pieces_tokens, left_behind}
 use Rattle.hare_tree.specs.Shape.{stops_each, form_stops}
 use Rattle.hare_tree.specs.Judged.{nodes_from}
-use Rattle.hare_tree.proofs.Spelled.{drop-past}
+use Rattle.hare_tree.proofs.Spelling.Spelled.{drop-past}
 use Rattle.hare_ways.specs.declared.edge.Seen.{Seen}
 use Rattle.hare_ways.specs.declared.part.Part.{Part}
 use Rattle.hare_ways.specs.Breaks.{Item, is_fixed, is_comma, sign_at, kids_behind, ends_in_comma, wants_comma}

@@ -4,7 +4,7 @@ use Rattle.std.proofs.Math.Dec.{leb}
 use Rattle.std.proofs.lemmas.Bool.Decides.{leb_tells}
 use Rattle.hare_tree.specs.Node.{Node, Nodes, none, more, nodes_of}
 use Rattle.hare_tree.specs.Judged.{nodes_from}
-use Rattle.hare_tree.proofs.KidsFrom.{nodes_from-past, nodes_from-one}
+use Rattle.hare_tree.proofs.TreeKids.KidsFrom.{nodes_from-past, nodes_from-one}
 use Rattle.hare_ways.specs.Breaks.{Item, is_nil, is_one}
 use Rattle.hare_ways.specs.Parts.{item_of, items_of}
 

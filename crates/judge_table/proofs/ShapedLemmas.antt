@@ -13,7 +13,7 @@ use Rattle.hare_tree.specs.KidSorts.{IsKid}
 use Rattle.hare_tree.specs.Levels.{sort_in}
 use Rattle.hare_tree.specs.Node.{Node, branch, none, more, head}
 use Rattle.hare_tree.specs.Shape.{is_shaped, is_absent, is_none, is_own}
-use Rattle.hare_tree.proofs.Fitting.{fits_file_parts}
+use Rattle.hare_tree.proofs.Low.Fitting.{fits_file_parts}
 use Rattle.judge_table.specs.Shaped.{IsShaped}
 
 both-left : (a b : Bool) → (a && b) ≡ true → a ≡ true

@@ -11,7 +11,7 @@ use Rattle.hare_tree.specs.Forms.{form_of}
 use Rattle.hare_tree.specs.Levels.{level, admits, is_type, is_bare_type}
 use Rattle.hare_tree.specs.Shape.{is_shaped, are_kids, kid_pieces, is_own, own_of, scalars}
 use Rattle.hare_tree.specs.Words.{is_listed}
-use Rattle.hare_tree.proofs.ShapedKids.{shaped_admits}
+use Rattle.hare_tree.proofs.TreeKids.ShapedKids.{shaped_admits}
 use Rattle.hare_types.specs.Store.{Store}
 use Rattle.hare_typed.specs.Typed.{TypedNode, marked, typed_nodes}
 use Rattle.hare_typed.specs.Erased.{erase, erase_each}

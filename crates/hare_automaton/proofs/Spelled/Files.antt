@@ -17,7 +17,7 @@ use Rattle.hare_tree.specs.Signs.{is_sign}
 use Rattle.hare_tree.specs.Spell.{start_of, word_token, spell, spells, spell_all, spell_file}
 use Rattle.hare_tree.specs.Shape.{is_shaped, is_shaped_file, stops}
 use Rattle.hare_tree.specs.Depth.{begins_led}
-use Rattle.hare_tree.proofs.Fitting.{fits_file_parts}
+use Rattle.hare_tree.proofs.Low.Fitting.{fits_file_parts}
 use Rattle.hare_tree.specs.Grammar.{HavePlaces, unplaced, joined}
 use Rattle.hare_automaton.specs.declared.class.Class.{Class}
 use Rattle.hare_automaton.specs.declared.class.Class.TheVariants as cl

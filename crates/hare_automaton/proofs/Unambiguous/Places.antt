@@ -12,7 +12,7 @@ use Rattle.hare_tree.specs.Spell.{start_of, Spelled, piece_tokens, pieces_tokens
 use Rattle.hare_tree.specs.Shape.{is_none}
 use Rattle.hare_tree.specs.Spell.{own_tokens, left_behind}
 use Rattle.hare_tree.specs.Depth.{begins as begin_at, begins_in, place_in, is_operator, first_number, numbers_behind}
-use Rattle.hare_tree.proofs.Fitting.{fits_parts}
+use Rattle.hare_tree.proofs.Low.Fitting.{fits_parts}
 use Rattle.hare_tree.specs.Grammar.{HasPlaces, HavePlaces, place_of, joined}
 use Rattle.hare_automaton.specs.OneTree.{plain, plains, plain_head, PlacesDecideTrees, TokensHaveOneTree}
 use Rattle.hare_automaton.proofs.Unambiguous.OneTree.{sorts_have_one_tree}

@@ -9,7 +9,7 @@ use Rattle.hare_tree.specs.declared.form.Sort.{Sort}
 use Rattle.hare_tree.specs.Forms.{form_of}
 use Rattle.hare_tree.specs.Node.{Head, Nodes, branch}
 use Rattle.hare_tree.specs.Shape.{is_scalar_value, is_own, own_of, is_shaped}
-use Rattle.hare_tree.proofs.ShapedKids.{AllShaped, kids_of_shaped}
+use Rattle.hare_tree.proofs.TreeKids.ShapedKids.{AllShaped, kids_of_shaped}
 use Rattle.hare_typed.specs.Typed.{TypedNode, TypedNodes, marked, typed_none, typed_more}
 use Rattle.hare_typed.specs.Erased.{erase, erase_each}
 use Rattle.hare_constancy.specs.Laws.{IsSmall, HasSmallLiterals, HaveSmallLiterals}

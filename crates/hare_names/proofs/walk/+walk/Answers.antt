@@ -2,7 +2,7 @@ use Rattle.std.proofs.Common.{◌≡◌, ◌<◌, ◌≤◌, ◌+◌, ◌^◌, �
 use Rattle.hare_tree.specs.Node.{nodes_of, size_of, sizes_of}
 use Rattle.hare_tree.specs.Judged.{nodes_from}
 use Rattle.hare_tree.proofs.Sizes.{kid_size}
-use Rattle.hare_tree.proofs.KidsFrom.{nodes_from-get, nodes_from-past}
+use Rattle.hare_tree.proofs.TreeKids.KidsFrom.{nodes_from-get, nodes_from-past}
 use Rattle.hare_directory.specs.Seen.{tables_of}
 use Rattle.hare_names.specs.Scopes.{bindings_in, bindings_among, bound_by, bound_among, bound_itself}
 use Rattle.hare_names.proofs.WalkLemmas.{walking-on, walking-past, walking-done, walking-room, back, one-kid, two-kids, counted-one, counted-two, loop-one, loop-two}

@@ -3,7 +3,7 @@ use Rattle.std.specs.Prelude.{not, ◌==◌}
 use Rattle.hare_tree.specs.Forms.{form_of}
 use Rattle.hare_tree.specs.Shape.{begins_labelled}
 use Rattle.hare_tree.specs.Judged.{begins_with_kid, begins_with_label}
-use Rattle.hare_tree.proofs.Behind.{begins-kid, begins-own, first-labelled, none-labelled, is_empty-length, kid_size-tree}
+use Rattle.hare_tree.proofs.TreeKids.Behind.{begins-kid, begins-own, first-labelled, none-labelled, is_empty-length, kid_size-tree}
 use Rattle.hare_tree.proofs.edge.begins_labelled.Goals as goal
 
 pub loop-tree-smaller : goal.loop-tree-smaller

@@ -1,8 +1,8 @@
 use Rattle.std.proofs.Common.{ap, sym, ◌∙◌, arith}
 use Rattle.hare_tree.specs.Node.{nodes_of}
 use Rattle.hare_tree.specs.Shape.{edges, behind_item}
-use Rattle.hare_tree.proofs.KidsFrom.{nodes_from-past}
-use Rattle.hare_tree.proofs.Behind.{nodes_from-tail, item-absent, item-skip, item-there}
+use Rattle.hare_tree.proofs.TreeKids.KidsFrom.{nodes_from-past}
+use Rattle.hare_tree.proofs.TreeKids.Behind.{nodes_from-tail, item-absent, item-skip, item-there}
 use Rattle.hare_tree.proofs.edge.comma_behind.Goals as goal
 
 pub returns-in_err-kind : goal.returns-in_err-kind

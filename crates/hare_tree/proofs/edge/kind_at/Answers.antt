@@ -1,7 +1,7 @@
 use Rattle.std.proofs.Common.{ap, sym, ◌∙◌, Some, arith}
 use Rattle.hare_tree.specs.Node.{head}
 use Rattle.hare_tree.specs.Judged.{first_kind}
-use Rattle.hare_tree.proofs.KidsFrom.{nodes_from-past, nodes_from-get}
+use Rattle.hare_tree.proofs.TreeKids.KidsFrom.{nodes_from-past, nodes_from-get}
 use Rattle.hare_tree.proofs.edge.kind_at.Goals as goal
 
 pub returns-then-len-i-clause-value : goal.returns-then-len-i-clause-value

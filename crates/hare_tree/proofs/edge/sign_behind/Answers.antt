@@ -2,7 +2,7 @@ use Rattle.std.proofs.Common.{◌+◌, drop, ap, sym, ◌∙◌}
 use Rattle.hare_tree.specs.Node.{nodes_of}
 use Rattle.hare_tree.specs.Shape.{edges, behind_kid}
 use Rattle.hare_tree.specs.Judged.{nodes_from}
-use Rattle.hare_tree.proofs.Behind.{nodes_from-tail, led-skip, pieces-at}
+use Rattle.hare_tree.proofs.TreeKids.Behind.{nodes_from-tail, led-skip, pieces-at}
 use Rattle.hare_tree.proofs.edge.sign_behind.Goals as goal
 
 pub loop-at-preserved : goal.loop-at-preserved

@@ -1,5 +1,5 @@
 use Rattle.std.proofs.Common.{false, sym, ◌∙◌}
-use Rattle.hare_tree.proofs.Behind.{yields, first-labelled, none-labelled}
+use Rattle.hare_tree.proofs.TreeKids.Behind.{yields, first-labelled, none-labelled}
 use Rattle.hare_tree.proofs.edge.takes_label.Goals as goal
 
 pub returns-in-Some : goal.returns-in-Some

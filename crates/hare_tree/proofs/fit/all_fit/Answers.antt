@@ -1,7 +1,7 @@
 use Rattle.std.proofs.Common.{◌≡◌, true, false, take, drop, sym, ◌∙◌, arith}
 use Rattle.std.specs.List.{list_all}
 use Rattle.hare_tree.specs.Depth.{fits_as}
-use Rattle.hare_tree.proofs.Fitting.{all-first, all-past}
+use Rattle.hare_tree.proofs.Low.Fitting.{all-first, all-past}
 use Rattle.hare_tree.proofs.fit.all_fit.Goals as goal
 
 pub returns-then-not-kid_fits : goal.returns-then-not-kid_fits

@@ -1,4 +1,4 @@
-use Rattle.hare_tree.proofs.Fitting.{fits-file, fits-no-file}
+use Rattle.hare_tree.proofs.Low.Fitting.{fits-file, fits-no-file}
 use Rattle.hare_tree.proofs.fit.fits.Goals as goal
 
 pub returns-then-all_fit : goal.returns-then-all_fit

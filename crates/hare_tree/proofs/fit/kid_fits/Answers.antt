@@ -1,6 +1,6 @@
 use Rattle.std.proofs.Common.{sym, ◌∙◌}
 use Rattle.hare_tree.specs.Depth.{fits_as}
-use Rattle.hare_tree.proofs.Fitting.{first-there, first-past}
+use Rattle.hare_tree.proofs.Low.Fitting.{first-there, first-past}
 use Rattle.hare_tree.proofs.fit.kid_fits.Goals as goal
 
 pub returns-in-Some : goal.returns-in-Some

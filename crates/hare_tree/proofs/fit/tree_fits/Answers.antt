@@ -1,4 +1,4 @@
-use Rattle.hare_tree.proofs.Fitting.{fits-some, fits-none}
+use Rattle.hare_tree.proofs.Low.Fitting.{fits-some, fits-none}
 use Rattle.hare_tree.proofs.fit.tree_fits.Goals as goal
 
 pub returns-in-Some : goal.returns-in-Some

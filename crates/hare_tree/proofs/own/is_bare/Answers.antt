@@ -1,6 +1,6 @@
 use Rattle.std.proofs.Common.{◌≡◌, ◌≢◌, ℕ, zero, suc, true, false, length, refl, sym, ◌∙◌, arith}
 use Rattle.std.specs.Prelude.{◌==◌}
-use Rattle.hare_tree.proofs.Owned.{leaf-kids}
+use Rattle.hare_tree.proofs.Spelling.Owned.{leaf-kids}
 use Rattle.hare_tree.proofs.own.is_bare.Goals as goal
 
 is-false : (n : ℕ) → n ≢ 0 → (n == 0) ≡ false

@@ -1,5 +1,5 @@
 use Rattle.std.proofs.Common.{sym, ◌∙◌}
-use Rattle.hare_tree.proofs.Owned.{names-second, names-byte, names-mark}
+use Rattle.hare_tree.proofs.Spelling.Owned.{names-second, names-byte, names-mark}
 use Rattle.hare_tree.proofs.own.next_part.Goals as goal
 
 pub returns-then-part-clause-value : goal.returns-then-part-clause-value

@@ -1,7 +1,7 @@
 use Rattle.std.proofs.Common.{refl, sym, ◌∙◌, ap}
 use Rattle.hare_tree.specs.Shape.{own_of}
-use Rattle.hare_tree.proofs.Owned.{own_of-other}
-use Rattle.hare_tree.proofs.Behind.{pieces-at}
+use Rattle.hare_tree.proofs.Spelling.Owned.{own_of-other}
+use Rattle.hare_tree.proofs.TreeKids.Behind.{pieces-at}
 use Rattle.hare_tree.proofs.own.own_of.Goals as goal
 
 pub loop-piece-preserved : goal.loop-piece-preserved

@@ -7,10 +7,10 @@ use Rattle.hare_tree.specs.Shape.{edges, behind_kid, is_none, is_none_or_dots}
 use Rattle.hare_tree.specs.Judged as spec
 use Rattle.hare_tree.specs.Judged.{nodes_from, judged, judged_behind, judged_tree, judged_first, judged_optional, judged_followed, both}
 use Rattle.hare_tree.proofs.Sizes.{kid_size}
-use Rattle.hare_tree.proofs.Spelled.{drop-past}
-use Rattle.hare_tree.proofs.KidsFrom.{nodes_from-get, nodes_from-past, kids_of-open}
-use Rattle.hare_tree.proofs.Behind.{pieces-at, kid_size-tree}
-use Rattle.hare_tree.proofs.LowTrees as low
+use Rattle.hare_tree.proofs.Spelling.Spelled.{drop-past}
+use Rattle.hare_tree.proofs.TreeKids.KidsFrom.{nodes_from-get, nodes_from-past, kids_of-open}
+use Rattle.hare_tree.proofs.TreeKids.Behind.{pieces-at, kid_size-tree}
+use Rattle.hare_tree.proofs.Low.LowTrees as low
 use Rattle.hare_tree.proofs.shape.+shape.Goals as goal
 
 -- ---- single kids

@@ -1,7 +1,7 @@
 use Rattle.std.proofs.Common.{ap, sym, ◌∙◌}
 use Rattle.hare_tree.specs.Shape.{is_none_or_comma}
 use Rattle.hare_tree.specs.Judged.{first_is}
-use Rattle.hare_tree.proofs.KidsFrom.{nodes_from-get, nodes_from-past}
+use Rattle.hare_tree.proofs.TreeKids.KidsFrom.{nodes_from-get, nodes_from-past}
 use Rattle.hare_tree.proofs.shape.is_comma_at.Goals as goal
 
 pub returns-in-Some : goal.returns-in-Some

@@ -1,6 +1,6 @@
 use Rattle.std.proofs.Common.{◌≡◌, ◌<◌, ◌+◌, ◌++◌, ap, sym, ◌∙◌, arith}
 use Rattle.hare_tree.specs.Left.{entry_tokens, entry_weight, left_tokens, left_weight}
-use Rattle.hare_tree.proofs.Stack.{left_tokens-push, left_weight-push}
+use Rattle.hare_tree.proofs.Spelling.Stack.{left_tokens-push, left_weight-push}
 use Rattle.hare_tree.proofs.unparse.put_all.Goals as goal
 
 pub loop-entry-smaller : goal.loop-entry-smaller

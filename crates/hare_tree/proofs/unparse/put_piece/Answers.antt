@@ -2,8 +2,8 @@ use Rattle.std.proofs.Common.{ap}
 use Rattle.std.proofs.lemmas.Result.{on_ok_weaker}
 use Rattle.hare_tree.specs.Node.{kids_of}
 use Rattle.hare_tree.specs.Left.{left_weight, count_of, kid_behind}
-use Rattle.hare_tree.proofs.KidsFrom.{kids_of-open}
-use Rattle.hare_tree.proofs.Stack.{piece-one, piece-all, either-kid, either-more, either-list}
+use Rattle.hare_tree.proofs.TreeKids.KidsFrom.{kids_of-open}
+use Rattle.hare_tree.proofs.Spelling.Stack.{piece-one, piece-all, either-kid, either-more, either-list}
 use Rattle.hare_tree.proofs.unparse.put_piece.Goals as goal
 
 pub returns-in-Kid-clause-weight : goal.returns-in-Kid-clause-weight

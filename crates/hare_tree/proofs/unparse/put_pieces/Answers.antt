@@ -7,9 +7,9 @@ use Rattle.hare_tree.specs.Node.{head, kids_of}
 use Rattle.hare_tree.specs.Forms.{form_of}
 use Rattle.hare_tree.specs.Spell.{kids_spelled}
 use Rattle.hare_tree.specs.Left.{left_tokens, left_weight, count_of}
-use Rattle.hare_tree.proofs.Spelled.{length-kids_spelled}
-use Rattle.hare_tree.proofs.KidsFrom.{kids_of-open}
-use Rattle.hare_tree.proofs.Stack.{count-nodes, form-left, form-weight}
+use Rattle.hare_tree.proofs.Spelling.Spelled.{length-kids_spelled}
+use Rattle.hare_tree.proofs.TreeKids.KidsFrom.{kids_of-open}
+use Rattle.hare_tree.proofs.Spelling.Stack.{count-nodes, form-left, form-weight}
 use Rattle.hare_tree.proofs.unparse.put_pieces.Goals as goal
 
 pub returns-clause-tokens : goal.returns-clause-tokens

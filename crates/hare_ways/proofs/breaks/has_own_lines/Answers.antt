@@ -3,7 +3,7 @@ use Rattle.hare_tree.specs.declared.form.Sign.TheVariants as si
 use Rattle.hare_tree.specs.Node.{head}
 use Rattle.hare_tree.specs.Forms.{form_of}
 use Rattle.hare_tree.specs.Spell.{kids_spelled}
-use Rattle.hare_tree.proofs.Spelled.{spell-pieces}
+use Rattle.hare_tree.proofs.Spelling.Spelled.{spell-pieces}
 use Rattle.hare_ways.proofs.FormSteps.{sign-bound}
 use Rattle.hare_ways.proofs.breaks.has_own_lines.Goals as goal
 

@@ -1,6 +1,6 @@
 use Rattle.std.proofs.Common.{◌+◌, length, drop, ap, sym, arith, length-append}
 use Rattle.hare_tree.specs.declared.kind.Kind.TheVariants as ki
-use Rattle.hare_tree.proofs.Spelled.{drop-past}
+use Rattle.hare_tree.proofs.Spelling.Spelled.{drop-past}
 use Rattle.hare_ways.specs.Walk.{mark_ways, path_behind}
 use Rattle.hare_ways.proofs.Paths.{path-step, path-count}
 use Rattle.hare_ways.proofs.count.count_path.Goals as goal

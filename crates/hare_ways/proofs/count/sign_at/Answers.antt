@@ -5,8 +5,8 @@ use Rattle.hare_tree.specs.Node.{head, kids_of, nodes_of}
 use Rattle.hare_tree.specs.Forms.{form_of}
 use Rattle.hare_tree.specs.Judged.{nodes_from}
 use Rattle.hare_tree.specs.Spell.{spells}
-use Rattle.hare_tree.proofs.Spelled.{spell-pieces}
-use Rattle.hare_tree.proofs.KidsFrom.{kids_of-open}
+use Rattle.hare_tree.proofs.Spelling.Spelled.{spell-pieces}
+use Rattle.hare_tree.proofs.TreeKids.KidsFrom.{kids_of-open}
 use Rattle.hare_ways.specs.Breaks.{is_fixed}
 use Rattle.hare_ways.specs.Parts.{part_of, nodes_behind}
 use Rattle.hare_ways.proofs.FormSteps.{tokens-next, tokens-room, sign-found, sign-next, sign-end}

@@ -1,5 +1,5 @@
 use Rattle.std.proofs.Common.{ap, sym, arith}
-use Rattle.hare_tree.proofs.KidsFrom.{nodes_from-one, nodes_from-past}
+use Rattle.hare_tree.proofs.TreeKids.KidsFrom.{nodes_from-one, nodes_from-past}
 use Rattle.hare_ways.specs.Edges.{behind_kid}
 use Rattle.hare_ways.proofs.edge.behind_kid.Goals as goal
 

@@ -1,7 +1,7 @@
 use Rattle.std.proofs.Common.{◌+◌, ap, sym, ◌∙◌, arith}
 use Rattle.hare_tree.specs.Node.{nodes_of}
 use Rattle.hare_tree.specs.Judged.{nodes_from}
-use Rattle.hare_tree.proofs.KidsFrom.{nodes_from-one, nodes_from-past}
+use Rattle.hare_tree.proofs.TreeKids.KidsFrom.{nodes_from-one, nodes_from-past}
 use Rattle.hare_ways.specs.Breaks.{ends_in_comma}
 use Rattle.hare_ways.specs.Parts.{items_of}
 use Rattle.hare_ways.proofs.FormSteps.{comma-found, comma-next}

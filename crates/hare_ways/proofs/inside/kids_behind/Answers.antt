@@ -4,7 +4,7 @@ use Rattle.hare_tree.specs.declared.form.Sign.TheVariants as si
 use Rattle.hare_tree.specs.Node.{head, kids_of, nodes_of}
 use Rattle.hare_tree.specs.Forms.{form_of}
 use Rattle.hare_tree.specs.Judged.{nodes_from}
-use Rattle.hare_tree.proofs.KidsFrom.{kids_of-open}
+use Rattle.hare_tree.proofs.TreeKids.KidsFrom.{kids_of-open}
 use Rattle.hare_ways.specs.Breaks.{is_fixed}
 use Rattle.hare_ways.specs.Parts.{items_of, part_of, nodes_behind}
 use Rattle.hare_ways.proofs.FormSteps.{behind-found, behind-next, behind-end}

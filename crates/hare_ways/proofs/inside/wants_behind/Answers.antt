@@ -1,6 +1,6 @@
 use Rattle.std.proofs.Common.{ap, sym, ◌∙◌}
 use Rattle.hare_tree.specs.Node.{head}
-use Rattle.hare_tree.proofs.KidsFrom.{nodes_from-get, nodes_from-past}
+use Rattle.hare_tree.proofs.TreeKids.KidsFrom.{nodes_from-get, nodes_from-past}
 use Rattle.hare_ways.specs.Breaks.{wants_behind}
 use Rattle.hare_ways.specs.Parts.{wants_behind_first}
 use Rattle.hare_ways.proofs.inside.wants_behind.Goals as goal

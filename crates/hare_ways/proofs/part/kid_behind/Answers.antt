@@ -1,5 +1,5 @@
 use Rattle.std.proofs.Common.{arith}
-use Rattle.hare_tree.proofs.KidsFrom.{nodes_from-past}
+use Rattle.hare_tree.proofs.TreeKids.KidsFrom.{nodes_from-past}
 use Rattle.hare_ways.proofs.part.kid_behind.Goals as goal
 
 pub returns-in-All : goal.returns-in-All

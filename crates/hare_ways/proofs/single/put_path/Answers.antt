@@ -1,5 +1,5 @@
 use Rattle.std.proofs.Common.{◌+◌, [], ◌∷◌, ◌++◌, drop, ap, sym, ◌∙◌, arith, append_assoc}
-use Rattle.hare_tree.proofs.Spelled.{drop-past}
+use Rattle.hare_tree.proofs.Spelling.Spelled.{drop-past}
 use Rattle.hare_ways.specs.Walk.{at_depth, mark_ways, path_behind}
 use Rattle.hare_ways.proofs.Depths.{at_depth-append}
 use Rattle.hare_ways.proofs.Paths.{path-step, path-put}

@@ -1,7 +1,7 @@
 use Rattle.std.proofs.Common.{◌≡◌, ◌-◌, take, length, sym, ap, ◌∙◌, arith}
 use Rattle.std.proofs.lemmas.Grind.{common_steps}
 use Rattle.hare_tree.specs.Grammar.{before_end}
-use Rattle.hare_tree.proofs.BeforeEnd.{before_end_is}
+use Rattle.hare_tree.proofs.Spelling.BeforeEnd.{before_end_is}
 use Rattle.hare_tree.proofs.tokens.Tokens.drop_last.Goals as goal
 
 pub returns : goal.returns

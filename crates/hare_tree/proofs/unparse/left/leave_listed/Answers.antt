@@ -4,8 +4,8 @@ use Rattle.hare_tree.specs.declared.form.Sign.TheVariants as si
 use Rattle.hare_tree.specs.declared.form.Lead.TheVariants as le
 use Rattle.hare_tree.specs.declared.unparse.left.Row.{Row}
 use Rattle.hare_tree.specs.Left.{left_weight}
-use Rattle.hare_tree.proofs.Spelled.{listed-past}
-use Rattle.hare_tree.proofs.Stack.{rows-left, row-weight}
+use Rattle.hare_tree.proofs.Spelling.Spelled.{listed-past}
+use Rattle.hare_tree.proofs.Spelling.Stack.{rows-left, row-weight}
 use Rattle.hare_tree.proofs.unparse.left.leave_listed.Goals as goal
 
 pub returns-then-len-from-clause-tokens : goal.returns-then-len-from-clause-tokens

@@ -1,7 +1,7 @@
 use Rattle.std.proofs.Common.{refl, arith}
 use Rattle.std.proofs.lemmas.Result.{on_ok_weaker}
-use Rattle.hare_tree.proofs.Spelled.{one_led-past}
-use Rattle.hare_tree.proofs.Stack.{one-left, one-weight, past-weight}
+use Rattle.hare_tree.proofs.Spelling.Spelled.{one_led-past}
+use Rattle.hare_tree.proofs.Spelling.Stack.{one-left, one-weight, past-weight}
 use Rattle.hare_tree.specs.Left.{left_weight}
 use Rattle.hare_tree.proofs.unparse.left.leave_one.Goals as goal
 

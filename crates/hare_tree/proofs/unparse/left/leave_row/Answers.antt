@@ -2,8 +2,8 @@ use Rattle.std.proofs.Common.{◌<◌, ◌+◌, length, refl, arith}
 use Rattle.std.proofs.lemmas.Result.{on_ok_weaker}
 use Rattle.hare_tree.specs.declared.unparse.left.Row.{Row}
 use Rattle.hare_tree.specs.Left.{left_weight}
-use Rattle.hare_tree.proofs.Spelled.{all_led-past}
-use Rattle.hare_tree.proofs.Stack.{row-left, row-weight}
+use Rattle.hare_tree.proofs.Spelling.Spelled.{all_led-past}
+use Rattle.hare_tree.proofs.Spelling.Stack.{row-left, row-weight}
 use Rattle.hare_tree.proofs.unparse.left.leave_row.Goals as goal
 
 pub returns-then-len-from-clause-tokens : goal.returns-then-len-from-clause-tokens

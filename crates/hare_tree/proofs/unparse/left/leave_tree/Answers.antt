@@ -2,7 +2,7 @@ use Rattle.std.proofs.Common.{◌≡◌, true, false, ap, refl, arith}
 use Rattle.hare_tree.specs.declared.unparse.left.Pieces.{Pieces}
 use Rattle.hare_tree.specs.Node.{head}
 use Rattle.hare_tree.specs.Spell as spec
-use Rattle.hare_tree.proofs.Stack.{leave-alone, leave-nothing, leave-before, leave-behind, weight-tree, weight-sign}
+use Rattle.hare_tree.proofs.Spelling.Stack.{leave-alone, leave-nothing, leave-before, leave-behind, weight-tree, weight-sign}
 use Rattle.hare_tree.proofs.unparse.left.leave_tree.Goals as goal
 
 pub returns-then-stands_alone-clause-tokens : goal.returns-then-stands_alone-clause-tokens

@@ -1,6 +1,6 @@
 use Rattle.std.proofs.Common.{◌+◌, ◌++◌, drop, ap, sym, ◌∙◌}
 use Rattle.hare_tree.specs.Spell.{path_tokens}
-use Rattle.hare_tree.proofs.Spelled.{parts_from-second, parts_from-mark, path-mark}
+use Rattle.hare_tree.proofs.Spelling.Spelled.{parts_from-second, parts_from-mark, path-mark}
 use Rattle.hare_tree.proofs.unparse.own.put_path_byte.Goals as goal
 
 pub returns-then-taken : goal.returns-then-taken

@@ -4,7 +4,7 @@ use Rattle.std.specs.Prelude.{◌&&◌, not, nat_le, min, max, ◌⊎◌}
 use Rattle.std.proofs.lemmas.Bool.{leb-true, le-leb, and_parts}
 use Rattle.hare_tree.specs.declared.kind.Kind.{Kind}
 use Rattle.hare_tree.specs.Node.{Head, Node, Nodes, branch, none, more, nodes_of}
-use Rattle.hare_tree.proofs.KidsFrom.{nodes_from-one}
+use Rattle.hare_tree.proofs.TreeKids.KidsFrom.{nodes_from-one}
 use Rattle.hare_tree.specs.Forms.{form_of}
 use Rattle.hare_tree.specs.Spell.{spells}
 use Rattle.hare_tree.specs.Depth.{is_node, is_operator, counted, height, greatest_height, left_height, begins, node_faults, open_within, deep, deep_each, is_nil, first_number, numbers_behind, place_in}

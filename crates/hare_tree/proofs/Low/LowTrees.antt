@@ -22,9 +22,9 @@ use Rattle.hare_tree.specs.Shape.{is_shaped, are_kids, kid_pieces, kids_end, ite
 use Rattle.hare_tree.specs.Depth.{height, greatest_height, counted}
 use Rattle.hare_tree.specs.Judged as spec
 use Rattle.hare_tree.specs.Judged.{nodes_from, is_low, ends_of, both, edge_of, judged_tree, judged_first, judged_optional, judged_followed, are_low, form_ends, judged, judged_behind}
-use Rattle.hare_tree.proofs.KidsFrom.{nodes_from-get, nodes_from-past, nodes_from-one}
-use Rattle.hare_tree.proofs.Behind.{tail_of, nodes_from-tail}
-use Rattle.hare_tree.proofs.Limits.{nat_le-max, nat_le-room, same_test}
+use Rattle.hare_tree.proofs.TreeKids.KidsFrom.{nodes_from-get, nodes_from-past, nodes_from-one}
+use Rattle.hare_tree.proofs.TreeKids.Behind.{tail_of, nodes_from-tail}
+use Rattle.hare_tree.proofs.Low.Limits.{nat_le-max, nat_le-room, same_test}
 
 -- ---- answers that may be none
 

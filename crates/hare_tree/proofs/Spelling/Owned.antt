@@ -11,7 +11,7 @@ use Rattle.hare_tree.specs.Node.{Head, Node, branch, nodes_of}
 use Rattle.hare_tree.specs.Levels.{is_name}
 use Rattle.hare_tree.specs.Shape.{own_of, are_names, is_leaf}
 use Rattle.hare_tree.specs.Judged.{names_left}
-use Rattle.hare_tree.proofs.Spelled.{parts_from-second, parts_from-mark, parts_from-byte}
+use Rattle.hare_tree.proofs.Spelling.Spelled.{parts_from-second, parts_from-mark, parts_from-byte}
 
 -- a piece that is no own part
 pub own_of-other : (p : Piece) (ps : List Piece) → ((o : Own) → p ≡ pi.Own o → ⊥) → own_of (p ∷ ps) ≡ own_of ps

@@ -14,8 +14,8 @@ use Rattle.hare_tree.specs.declared.form.Sort.TheVariants as so
 use Rattle.hare_tree.specs.declared.tree.FileTree.{FileTree}
 use Rattle.hare_tree.specs.Depth.{fits_as, fits_file, deep, deep_each, deep_root, begins_led, first_number, numbers_behind, height, is_nil, is_shallow}
 use Rattle.hare_tree.specs.Judged.{is_low, ends_of, judged_tree, keeps_low}
-use Rattle.hare_tree.proofs.Limits.{is_nil-low, is_nil-append, deep-place, same_test, and_true}
-use Rattle.hare_tree.proofs.LowTrees.{some-if, some-is, and_true'}
+use Rattle.hare_tree.proofs.Low.Limits.{is_nil-low, is_nil-append, deep-place, same_test, and_true}
+use Rattle.hare_tree.proofs.Low.LowTrees.{some-if, some-is, and_true'}
 
 -- a tree that is judged fits where it keeps the limits
 pub fits-some : (s : Sort) (t : Node) (e : Ends) (k : Bool) → Some e ≡ judged_tree 511 s t → k ≡ keeps_low 511 0 false t →

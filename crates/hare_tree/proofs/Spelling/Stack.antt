@@ -19,8 +19,8 @@ use Rattle.hare_tree.specs.Forms.{form_of}
 use Rattle.hare_tree.specs.Judged.{nodes_from}
 use Rattle.hare_tree.specs.Spell.{Spelled, sign_token, stands_alone, with_lead, all_led, one_led, listed, spell, spells, spelled_kid, kids_spelled, pieces_tokens, piece_tokens, left_behind}
 use Rattle.hare_tree.specs.Left.{entry_tokens, form_tokens, left_tokens, weight, weights, form_weight, entry_weight, left_weight, count_of, kid_behind}
-use Rattle.hare_tree.proofs.Spelled.{spell-pieces, all_led-step, one_led-here, pieces-step, drop-one}
-use Rattle.hare_tree.proofs.KidsFrom.{nodes_from-get, nodes_from-past}
+use Rattle.hare_tree.proofs.Spelling.Spelled.{spell-pieces, all_led-step, one_led-here, pieces-step, drop-one}
+use Rattle.hare_tree.proofs.TreeKids.KidsFrom.{nodes_from-get, nodes_from-past}
 
 -- ---- one more entry
 
