@@ -209,19 +209,31 @@ all_read file src tokens new p at b rest blank [] parts r g e l a u k =
     }
 all_read file src tokens new p at b rest blank (c ∷ text) parts r g e l a u k = absurd (omega arith)
 
--- the first break
+-- the first break: where the lexer stood, the gap that it passed, the break behind it, and what the lexer stops with
+pub record IsBroken (file : ℕ) (src : List ℕ) (tokens : List Token) (p at q : Place) (b : Bool) (rest blank text : List ℕ)
+    (parts : List (List ℕ)) (number offset : ℕ) (stop : LexStop) : Type 0 where
+  pub reached : Reached file src tokens p b rest
+  pub gap : Gap parts rest text
+  pub passed : rest ≡ blank ++ text
+  pub begins_at : at ≡ advanced p blank
+  pub utf8 : IsUtf8 src
+  pub breaks : Break b text number offset
+  pub breaks_at : q ≡ advanced at (take offset text)
+  pub stopped : Stopped tokens number q stop
+
 pub broken_at : (file : ℕ) (src : List ℕ) (tokens : List Token) (p at q : Place) (b : Bool) (rest blank text : List ℕ)
-    (parts : List (List ℕ)) (number offset : ℕ) (stop : LexStop) → Reached file src tokens p b rest → Gap parts rest text →
-    rest ≡ blank ++ text → at ≡ advanced p blank → IsUtf8 src → Break b text number offset → q ≡ advanced at (take offset text) →
-    Stopped tokens number q stop → Stops file src stop
-broken_at file src tokens p at q b rest blank text parts number offset stop.Memory r g e a u h z s = tt
-broken_at file src tokens p at q b rest blank text parts number offset (stop.Fault fault kept) r g e a u h z s =
-    let whole : src ≡ (r.before ++ blank) ++ text = r.split ∙ ap (λ w. r.before ++ w) e ∙ sym (append_assoc r.before blank text) in
-    let here : at ≡ place_at file (r.before ++ blank) = a ∙ ap (λ y. advanced y blank) r.place_is ∙ sym (place_more file r.before blank) in
+    (parts : List (List ℕ)) (number offset : ℕ) (stop : LexStop) →
+    IsBroken file src tokens p at q b rest blank text parts number offset stop → Stops file src stop
+broken_at file src tokens p at q b rest blank text parts number offset stop.Memory c = tt
+broken_at file src tokens p at q b rest blank text parts number offset (stop.Fault fault kept) c =
+    let r = c.reached in
+    let whole : src ≡ (r.before ++ blank) ++ text = r.split ∙ ap (λ w. r.before ++ w) c.passed ∙ sym (append_assoc r.before blank text) in
+    let here : at ≡ place_at file (r.before ++ blank) =
+    c.begins_at ∙ ap (λ y. advanced y blank) r.place_is ∙ sym (place_more file r.before blank) in
     let there : q ≡ place_at file ((r.before ++ blank) ++ take offset text) =
-    z ∙ ap (λ y. advanced y (take offset text)) here ∙ sym (place_more file (r.before ++ blank) (take offset text)) in
+    c.breaks_at ∙ ap (λ y. advanced y (take offset text)) here ∙ sym (place_more file (r.before ++ blank) (take offset text)) in
     inr (record {
-      utf8 = u;
+      utf8 = c.utf8;
       spelled_by = tokens;
       at_path = b;
       before = r.before ++ blank;
@@ -229,8 +241,9 @@ broken_at file src tokens p at q b rest blank text parts number offset (stop.Fau
       number = number;
       offset = offset;
       text_is = whole;
-      reads = subst (λ (w : List Token). Reads file [] false w src text b) (append-nil tokens) (r.goes_on [] text b (parts, g, refl));
-      breaks = h;
-      fault_is = s.0 ∙ ap (λ y. record { number = number; place = y }) there;
-      kept_are = s.1 ∙ ap (λ y. tokens ++ end_at y ∷ []) there;
+      reads = subst (λ (w : List Token). Reads file [] false w src text b) (append-nil tokens)
+          (r.goes_on [] text b (parts, c.gap, refl));
+      breaks = c.breaks;
+      fault_is = c.stopped.0 ∙ ap (λ y. record { number = number; place = y }) there;
+      kept_are = c.stopped.1 ∙ ap (λ y. tokens ++ end_at y ∷ []) there;
     })

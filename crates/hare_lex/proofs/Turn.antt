@@ -21,23 +21,37 @@ path_mark_text RuneLit s = refl
 path_mark_text Mark s = refl
 path_mark_text End s = refl
 
+-- one turn: where the lexer stood, the gap that it passed, the token that stands behind it, and where it stands then
+pub record IsTurn (file : ℕ) (src : List ℕ) (tokens : List Token) (p at : Place) (b : Bool) (rest blank text : List ℕ)
+    (parts : List (List ℕ)) (k : TokenKind) (len n : ℕ) (x : Suffix) (spelling behind : List ℕ) (token : Token) (new : List Token)
+    (q : Place) (m : Bool) : Type 0 where
+  pub reached : Reached file src tokens p b rest
+  pub gap : Gap parts rest text
+  pub passed : rest ≡ blank ++ text
+  pub begins_at : at ≡ advanced p blank
+  pub stands : Standing b text k len n x
+  pub spelling_is : spelling ≡ take len text
+  pub rest_is : behind ≡ drop len text
+  pub token_is : token ≡ token_at k at spelling n x
+  pub tokens_are : new ≡ tokens ++ token ∷ []
+  pub ends_at : q ≡ advanced at spelling
+  pub path_mark : m ≡ is_path_mark k spelling
+
 pub token_read : (file : ℕ) (src : List ℕ) (tokens : List Token) (p at : Place) (b : Bool) (rest blank text : List ℕ)
     (parts : List (List ℕ)) (k : TokenKind) (len n : ℕ) (x : Suffix) (spelling behind : List ℕ) (token : Token) (new : List Token)
-    (q : Place) (m : Bool)
-    → Reached file src tokens p b rest → Gap parts rest text → rest ≡ blank ++ text → at ≡ advanced p blank → Standing b text k len n x
-    → spelling ≡ take len text → behind ≡ drop len text → token ≡ token_at k at spelling n x → new ≡ tokens ++ token ∷ [] →
-    q ≡ advanced at spelling → m ≡ is_path_mark k spelling
-    → Reached file src new q m behind
-token_read file src tokens p at b rest blank text parts k len n x spelling behind token new q m r g e a st s d t w z i =
-    let word : spelling ≡ st.word = s ∙ ap (λ y. take y text) (sym st.len_is) ∙ front_is text st.word st.rest st.split in
-    let more : behind ≡ st.rest = d ∙ ap (λ y. drop y text) (sym st.len_is) ∙ behind_is text st.word st.rest st.split in
+    (q : Place) (m : Bool) → IsTurn file src tokens p at b rest blank text parts k len n x spelling behind token new q m →
+    Reached file src new q m behind
+token_read file src tokens p at b rest blank text parts k len n x spelling behind token new q m turn =
+    let st = turn.stands in
+    let word : spelling ≡ st.word = turn.spelling_is ∙ ap (λ y. take y text) (sym st.len_is) ∙ front_is text st.word st.rest st.split in
+    let more : behind ≡ st.rest = turn.rest_is ∙ ap (λ y. drop y text) (sym st.len_is) ∙ behind_is text st.word st.rest st.split in
     let one = token_at k at st.word n x in
-    let same : token ≡ one = t ∙ ap (λ y. token_at k at y n x) word in
-    let path : m ≡ is_path_mark k (text_of k st.word) = i ∙ ap (is_path_mark k) word ∙ sym (path_mark_text k st.word) in
+    let same : token ≡ one = turn.token_is ∙ ap (λ y. token_at k at y n x) word in
+    let path : m ≡ is_path_mark k (text_of k st.word) = turn.path_mark ∙ ap (is_path_mark k) word ∙ sym (path_mark_text k st.word) in
     let reached : Reached file src (tokens ++ one ∷ []) q (is_path_mark k (text_of k st.word)) st.rest =
-    reached_more file src tokens p at q b rest blank text st.word st.rest parts one r g e a refl st.split (st.stands at)
-    (z ∙ ap (advanced at) word) in
-    subst (λ l. Reached file src l q m behind) (sym (w ∙ ap (λ y. tokens ++ y ∷ []) same))
+    reached_more file src tokens p at q b rest blank text st.word st.rest parts one turn.reached turn.gap turn.passed turn.begins_at refl
+    st.split (st.stands at) (turn.ends_at ∙ ap (advanced at) word) in
+    subst (λ l. Reached file src l q m behind) (sym (turn.tokens_are ∙ ap (λ y. tokens ++ y ∷ []) same))
     (subst (λ c. Reached file src (tokens ++ one ∷ []) q c behind) (sym path)
     (subst (λ y. Reached file src (tokens ++ one ∷ []) q (is_path_mark k (text_of k st.word)) y) (sym more) reached))
 

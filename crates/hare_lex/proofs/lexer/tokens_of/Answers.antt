@@ -49,8 +49,16 @@ returns-in-Fault-clause-cause c =
     let fault = c.advanced-fault.ensures ∙ ap (λ s. advanced c.advanced-at.result s) c.split_at-in-Fault.ensures.front in
     broken_at c.args.file c.args.src.now c.loop-text.tokens c.loop-text.place c.advanced-at.result c.advanced-fault.result b rest blank text
     gap.0 c.in-Fault.number c.in-Fault.offset c.broken.result
-    c.loop-text.invariant gap.1 (joined c.gap_len.result rest blank text c.split_at.ensures.front c.split_at.ensures.back)
-    c.advanced-at.ensures c.requires.utf8 c.in-Fault.ensures.stands fault c.broken.ensures
+    (record {
+      reached = c.loop-text.invariant;
+      gap = gap.1;
+      passed = joined c.gap_len.result rest blank text c.split_at.ensures.front c.split_at.ensures.back;
+      begins_at = c.advanced-at.ensures;
+      utf8 = c.requires.utf8;
+      breaks = c.in-Fault.ensures.stands;
+      breaks_at = fault;
+      stopped = c.broken.ensures;
+    })
 
 pub advanced-place-requires-clause-lines : goal.advanced-place-requires-clause-lines
 advanced-place-requires-clause-lines c =
@@ -78,7 +86,16 @@ loop-text-preserved c =
     token_read c.args.file c.args.src.now c.loop-text.tokens c.loop-text.place c.advanced-at.result b rest blank text gap.0
     c.in-Token.kind c.in-Token.len c.in-Token.number c.in-Token.suffix c.split_at-in-Token.result.0.now c.split_at-in-Token.result.1.now
     c.in_ok-token-in-Token.token c.push-in-Token.new.self c.advanced-place.result c.is_path_mark-behind_path.result
-    c.loop-text.invariant gap.1 (joined c.gap_len.result rest blank text c.split_at.ensures.front c.split_at.ensures.back)
-    c.advanced-at.ensures c.in-Token.ensures.stands
-    c.split_at-in-Token.ensures.front c.split_at-in-Token.ensures.back c.in_ok-token-in-Token.ensures c.in_ok-push-in-Token.ensures.ok
-    c.advanced-place.ensures c.is_path_mark-behind_path.ensures
+    (record {
+      reached = c.loop-text.invariant;
+      gap = gap.1;
+      passed = joined c.gap_len.result rest blank text c.split_at.ensures.front c.split_at.ensures.back;
+      begins_at = c.advanced-at.ensures;
+      stands = c.in-Token.ensures.stands;
+      spelling_is = c.split_at-in-Token.ensures.front;
+      rest_is = c.split_at-in-Token.ensures.back;
+      token_is = c.in_ok-token-in-Token.ensures;
+      tokens_are = c.in_ok-push-in-Token.ensures.ok;
+      ends_at = c.advanced-place.ensures;
+      path_mark = c.is_path_mark-behind_path.ensures;
+    })
