@@ -20,7 +20,7 @@ use Rattle.hare_automaton.proofs.Spelled.Files.{files_have_one_tree}
 use Rattle.hare_automaton.proofs.Machine.Still.{still_append, still_led, still_spells}
 use Rattle.hare_prefixes.proofs.Outcomes.Whole.{whole_runs_make_files, files_have_whole_runs}
 use Rattle.hare_nesting.proofs.ByTheLetter.Placeless.{roots_pass_alike}
-use Rattle.hare_lex.proofs.Unique.{only_tokens}
+use Rattle.hare_lex.proofs.Whole.Unique.{only_tokens}
 use Rattle.hare_pieces.specs.Pieces.{ConsistsOf}
 use Rattle.hare_ways.specs.declared.way.Way.{Way}
 use Rattle.hare_ways.specs.Ways.{file_ways}

@@ -11,11 +11,11 @@ use Rattle.hare_tree.specs.Spell.{sign_token}
 use Rattle.hare_tree.specs.Words.{is_letter, is_word_byte, is_listed, is_not_feed, marks}
 use Rattle.hare_tree.specs.Spelling.{IsSpelling, IsSpellingOf}
 use Rattle.hare_tree.specs.Tokens.{ends_line, is_path_mark}
-use Rattle.hare_lex.proofs.Lists.{listed_case}
-use Rattle.hare_lex.proofs.Firsts.{is_first, is_other, first_of_kind, all_listed}
+use Rattle.hare_lex.proofs.Fronts.Lists.{listed_case}
+use Rattle.hare_lex.proofs.Fronts.Firsts.{is_first, is_other, first_of_kind, all_listed}
 use Rattle.std.proofs.lemmas.Bool.Decides.{nat_tests}
-use Rattle.hare_lex.proofs.Standing.{not_left_out, nothing_small}
-use Rattle.hare_lex.proofs.SoundMarks.{mark_listed, no_other_kind}
+use Rattle.hare_lex.proofs.Fronts.Standing.{not_left_out, nothing_small}
+use Rattle.hare_lex.proofs.Sound.Marks.{mark_listed, no_other_kind}
 use Rattle.hare_ways.specs.declared.way.Start.{Start}
 use Rattle.hare_ways.specs.declared.way.Start.TheVariants.{Within, Begins, Outdented}
 use Rattle.hare_ways.specs.declared.way.Way.{Way}

@@ -11,7 +11,7 @@ use Rattle.hare_tree.specs.Spell.{sign_token}
 use Rattle.hare_tree.specs.Words.{is_blank, is_not_feed}
 use Rattle.hare_tree.specs.Tokens.{IsComment, Stands, end_at, is_path_mark, no_gap}
 use Rattle.hare_tree.specs.Grammar.{is_proper_string, string_at, joined_to, joined, begins_with_string, unplaced}
-use Rattle.hare_lex.proofs.Lists.{and_left, and_right, and_both}
+use Rattle.hare_lex.proofs.Fronts.Lists.{and_left, and_right, and_both}
 use Rattle.hare_pieces.specs.declared.piece.Piece.{Piece}
 use Rattle.hare_pieces.specs.Pieces.{ConsistsOf}
 use Rattle.hare_ways.specs.declared.way.Way.{Way}

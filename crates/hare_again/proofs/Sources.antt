@@ -19,8 +19,8 @@ use Rattle.hare_tree.specs.Shape.{has_no_suffix}
 use Rattle.hare_tree.specs.Tokens.{IsTokens, end_at, place_at}
 use Rattle.hare_tree.specs.Grammar as grammar
 use Rattle.hare_tree.specs.Grammar.{is_proper_string, string_at, joined_to, joined, begins_with_string, before_end, unplaced, Spells}
-use Rattle.hare_lex.proofs.Firsts.{is_first, first_of_kind}
-use Rattle.hare_lex.proofs.Unique.{only_tokens}
+use Rattle.hare_lex.proofs.Fronts.Firsts.{is_first, first_of_kind}
+use Rattle.hare_lex.proofs.Whole.Unique.{only_tokens}
 use Rattle.hare_pieces.specs.declared.piece.Piece.{Piece}
 use Rattle.hare_pieces.specs.Pieces.{ConsistsOf, ArePieces}
 use Rattle.hare_lines.specs.Read.{Seen, seen, seen_from, seen_piece, body_of, trimmed, is_quoted, comments_before}

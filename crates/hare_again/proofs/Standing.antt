@@ -18,13 +18,13 @@ use Rattle.hare_tree.specs.declared.token.Token.{Token}
 use Rattle.hare_tree.specs.Words.{is_blank, is_letter, is_word_byte, is_word, is_listed, is_left_out, marks, Base, Decimal, Hexadecimal, Octal, Binary, radix, base_mark, suffix_word, begins_fraction, goes_on_as_fraction}
 use Rattle.hare_tree.specs.Spelling.{IsNumber, IsSpellingOf, IsSpelling}
 use Rattle.hare_tree.specs.Tokens.{Stands, no_gap}
-use Rattle.hare_lex.proofs.Lists.{and_left, and_right, and_both, listed_case}
-use Rattle.hare_lex.proofs.Firsts.{is_first, is_other, keyword_is_word, first_of_kind}
-use Rattle.hare_lex.proofs.Quotes.{closing_holds}
-use Rattle.hare_lex.proofs.Runes.{one_holds}
-use Rattle.hare_lex.proofs.SoundLiterals.{lit_longest, rune_kind, rune_is, quote_kind, raw_kind}
-use Rattle.hare_lex.proofs.SoundMarks.{no_other_kind, mark_listed}
-use Rattle.hare_lex.proofs.Standing.{first_same, no_fraction}
+use Rattle.hare_lex.proofs.Fronts.Lists.{and_left, and_right, and_both, listed_case}
+use Rattle.hare_lex.proofs.Fronts.Firsts.{is_first, is_other, keyword_is_word, first_of_kind}
+use Rattle.hare_lex.proofs.Literals.Quotes.{closing_holds}
+use Rattle.hare_lex.proofs.Literals.Runes.{one_holds}
+use Rattle.hare_lex.proofs.Sound.Literals.{lit_longest, rune_kind, rune_is, quote_kind, raw_kind}
+use Rattle.hare_lex.proofs.Sound.Marks.{no_other_kind, mark_listed}
+use Rattle.hare_lex.proofs.Fronts.Standing.{first_same, no_fraction}
 use Rattle.hare_lines.specs.Gaps.{lengthened, are_digits}
 use Rattle.hare_lines.proofs.Grown.{digits_run}
 use Rattle.hare_again.proofs.Strings.{string_closes, string_of}

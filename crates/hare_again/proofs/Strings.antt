@@ -6,8 +6,8 @@ use Rattle.hare_tree.specs.declared.token.Token.{Token}
 use Rattle.hare_tree.specs.Tokens.{holds}
 use Rattle.hare_tree.specs.Spelling.{IsSpellingOf, IsSpelling, IsQuoted, IsRaw, spelled}
 use Rattle.hare_lex.specs.Lexing.{closing}
-use Rattle.hare_lex.proofs.Quotes.{closing_holds, raw_holds}
-use Rattle.hare_lex.proofs.SoundLiterals.{quoted_holds}
+use Rattle.hare_lex.proofs.Literals.Quotes.{closing_holds, raw_holds}
+use Rattle.hare_lex.proofs.Sound.Literals.{quoted_holds}
 
 -- these bytes at the front of the text are a string
 pub record IsStringIn (w s : List ℕ) : Type 0 where

@@ -16,8 +16,8 @@ use Rattle.hare_tree.specs.declared.token.Token.{Token}
 use Rattle.hare_tree.specs.Words.{is_blank, is_listed, marks}
 use Rattle.hare_tree.specs.Spelling.{IsSpellingOf, IsSpelling}
 use Rattle.hare_tree.specs.Tokens.{IsComment, is_path_mark}
-use Rattle.hare_lex.proofs.Lists.{and_left, and_both, listed_case}
-use Rattle.hare_lex.proofs.Firsts.{is_first, first_of_kind, all_listed}
+use Rattle.hare_lex.proofs.Fronts.Lists.{and_left, and_both, listed_case}
+use Rattle.hare_lex.proofs.Fronts.Firsts.{is_first, first_of_kind, all_listed}
 use Rattle.hare_pieces.specs.declared.piece.Piece.{Piece}
 use Rattle.hare_pieces.specs.Pieces.{ConsistsOf, are_blank}
 use Rattle.hare_lines.specs.declared.way.Gap.{Gap}

@@ -12,7 +12,7 @@ use Rattle.hare_tree.proofs.Low.Fitting.{fits_file_parts}
 use Rattle.hare_tree.proofs.Counts.{shaped_files_are_small}
 use Rattle.hare_tree.proofs.Texts.{texts_are_spelled}
 use Rattle.hare_lex.specs.Order.{AreInOrder}
-use Rattle.hare_lex.proofs.Ordered.{tokens_are_in_order, tokens_are_few}
+use Rattle.hare_lex.proofs.Order.Ordered.{tokens_are_in_order, tokens_are_few}
 use Rattle.hare_decl.specs.Trees.{SourcesFit, SourcesStandOverTokens, SourcesHaveFewNodes, SourcesHaveFewTexts}
 
 pub sources_fit : SourcesFit

@@ -6,7 +6,7 @@ use Rattle.hare_tree.specs.declared.tree.FileTree.{FileTree}
 use Rattle.hare_tree.specs.Spell.{spell_file}
 use Rattle.hare_tree.specs.Grammar.{is_proper_string, string_at, joined_to, joined, unplaced, Spells}
 use Rattle.hare_decl.specs.Answers.{IsSource}
-use Rattle.hare_lex.proofs.Ordered.{tokens_are_few}
+use Rattle.hare_lex.proofs.Order.Ordered.{tokens_are_few}
 
 joined_to_length : (t : Token) (us : List Token) → length (joined_to t us) ≤ 1 + length us
 joined_to_length t [] = omega arith

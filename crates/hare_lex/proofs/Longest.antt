@@ -7,7 +7,7 @@ use Rattle.hare_tree.specs.declared.token.Suffix.{Suffix}
 use Rattle.hare_tree.specs.declared.token.Suffix.TheVariants.{None, I8, I16, I32, I64, U8, U16, U32, U64, I, U, Z}
 use Rattle.hare_tree.specs.Words.{is_listed, marks, suffix_word}
 use Rattle.hare_lex.specs.Lexing.{longest, suffixes, suffix_named}
-use Rattle.hare_lex.proofs.Lists.{and_left, and_right, listed_case, take_take}
+use Rattle.hare_lex.proofs.Fronts.Lists.{and_left, and_right, listed_case, take_take}
 
 -- a length that is picked by three tests
 pick : (words : List (List ℕ)) (s : List ℕ) (b3 b2 b1 : Bool) → is_listed words (take 3 s) ≡ b3 → is_listed words (take 2 s) ≡ b2 →

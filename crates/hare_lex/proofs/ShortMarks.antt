@@ -4,7 +4,7 @@ use Rattle.std.specs.Prelude.{◌==◌, slice_index}
 use Rattle.std.specs.List.{list_all, AllByRecursion}
 use Rattle.hare_tree.specs.Words.{is_listed, marks}
 use Rattle.hare_lex.specs.Lexing.{longest}
-use Rattle.hare_lex.proofs.Lists.{and_left, and_right, listed_case}
+use Rattle.hare_lex.proofs.Fronts.Lists.{and_left, and_right, listed_case}
 
 one_at_end : (c : ℕ) → is_listed marks (c ∷ []) ≡ true → 1 ≡ longest marks (c ∷ [])
 unfolding longest

@@ -10,7 +10,7 @@ use Rattle.hare_tree.specs.declared.token.Suffix.TheVariants as suffix
 use Rattle.hare_tree.specs.declared.token.Token.{Token}
 use Rattle.hare_tree.specs.Words.{is_listed, marks, begins_fraction, goes_on_as_fraction}
 use Rattle.hare_tree.specs.Spell.{start_of}
-use Rattle.hare_lex.proofs.Lists.{and_left, and_right, and_both, listed_case}
+use Rattle.hare_lex.proofs.Fronts.Lists.{and_left, and_right, and_both, listed_case}
 use Rattle.hare_lines.specs.Gaps.{lengthened, are_digits}
 use Rattle.hare_lines.specs.Layout.{NoTokenStands, GrowingPiecesAreOthers}
 

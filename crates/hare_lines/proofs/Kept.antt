@@ -3,7 +3,7 @@ use Rattle.std.proofs.Common.{◌≡◌, ℕ, ◌+◌, ◌<◌, ◌≤◌, List,
 use Rattle.std.proofs.Math.Logic.{⊎_elim}
 use Rattle.std.specs.List.{flat_map}
 use Rattle.hare_tree.specs.declared.token.Token.{Token}
-use Rattle.hare_lex.proofs.Firsts.{first_of_kind}
+use Rattle.hare_lex.proofs.Fronts.Firsts.{first_of_kind}
 use Rattle.hare_pieces.specs.declared.piece.Piece.{Piece}
 use Rattle.hare_pieces.specs.Pieces.{ConsistsOf}
 use Rattle.hare_lines.specs.declared.way.Gap.{Gap}

@@ -6,7 +6,7 @@ use Rattle.hare_tree.specs.Words.{is_blank}
 use Rattle.hare_tree.specs.Tokens.{IsComment, Stands, Gap, is_path_mark, no_gap}
 use Rattle.hare_pieces.specs.declared.piece.Piece.{Piece}
 use Rattle.hare_pieces.specs.Pieces.{ConsistsOf, are_blank}
-use Rattle.hare_lex.proofs.Lists.{and_left, and_right, and_both}
+use Rattle.hare_lex.proofs.Fronts.Lists.{and_left, and_right, and_both}
 
 all_both : (a b : List ℕ) → are_blank a ≡ true → are_blank b ≡ true → are_blank (a ++ b) ≡ true
 all_both a b h k = list_all-append is_blank a b ∙ and_both _ _ h k

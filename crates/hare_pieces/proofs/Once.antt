@@ -9,10 +9,10 @@ use Rattle.hare_tree.specs.declared.token.Token.{Token}
 use Rattle.hare_tree.specs.Words.{is_blank, is_not_feed}
 use Rattle.hare_tree.specs.Tokens.{IsComment, Stands, is_path_mark, no_gap, ends_line}
 use Rattle.hare_tree.specs.Grammar.{before_end}
-use Rattle.hare_lex.proofs.Lists.{and_left, and_right, same_front}
-use Rattle.hare_lex.proofs.Firsts.{first_of_kind}
-use Rattle.hare_lex.proofs.Whole.{fits_same}
-use Rattle.hare_lex.proofs.Unique.{only_tokens}
+use Rattle.hare_lex.proofs.Fronts.Lists.{and_left, and_right, same_front}
+use Rattle.hare_lex.proofs.Fronts.Firsts.{first_of_kind}
+use Rattle.hare_lex.proofs.Whole.Tokens.{fits_same}
+use Rattle.hare_lex.proofs.Whole.Unique.{only_tokens}
 use Rattle.hare_pieces.specs.declared.piece.Piece.{Piece}
 use Rattle.hare_pieces.specs.Pieces.{ConsistsOf, ArePieces, OneListOfPieces, are_blank}
 

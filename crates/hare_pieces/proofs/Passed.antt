@@ -7,8 +7,8 @@ use Rattle.hare_tree.specs.Tokens.{Gap, IsComment, no_gap}
 use Rattle.hare_lex.specs.declared.gap.GapPart.{GapPart}
 use Rattle.hare_lex.specs.Fronts.{IsPart, IsGapPart}
 use Rattle.hare_lex.specs.Lexing.{skipped}
-use Rattle.hare_lex.proofs.Standing.{len_front}
-use Rattle.hare_lex.proofs.Gaps.{gap_is}
+use Rattle.hare_lex.proofs.Fronts.Standing.{len_front}
+use Rattle.hare_lex.proofs.Turns.Gaps.{gap_is}
 use Rattle.hare_pieces.specs.declared.piece.Piece.{Piece}
 use Rattle.hare_pieces.specs.Pieces.{ConsistsOf}
 use Rattle.hare_pieces.specs.Walk.{Leads, with_part}

@@ -7,12 +7,12 @@ use Rattle.hare_tree.specs.Tokens.{Reads, Stands, Break, IsTokens, is_path_mark,
 use Rattle.hare_tree.specs.Grammar.{before_end}
 use Rattle.hare_lex.specs.Fronts.{token_at, Standing}
 use Rattle.hare_lex.specs.Lexing.{skipped}
-use Rattle.hare_lex.proofs.Lists.{front_is, behind_is}
-use Rattle.hare_lex.proofs.Firsts.{first_of_kind}
-use Rattle.hare_lex.proofs.Gaps.{gap_is}
-use Rattle.hare_lex.proofs.Turn.{path_mark_text}
-use Rattle.hare_lex.proofs.Whole.{break_stands}
-use Rattle.hare_lex.proofs.Unique.{one_token}
+use Rattle.hare_lex.proofs.Fronts.Lists.{front_is, behind_is}
+use Rattle.hare_lex.proofs.Fronts.Firsts.{first_of_kind}
+use Rattle.hare_lex.proofs.Turns.Gaps.{gap_is}
+use Rattle.hare_lex.proofs.Turns.Turn.{path_mark_text}
+use Rattle.hare_lex.proofs.Whole.Tokens.{break_stands}
+use Rattle.hare_lex.proofs.Whole.Unique.{one_token}
 use Rattle.hare_pieces.specs.declared.piece.Piece.{Piece}
 use Rattle.hare_pieces.specs.Pieces.{ConsistsOf, HasTokens, ArePieces, are_blank}
 use Rattle.hare_pieces.specs.Walk.{Leads}

@@ -6,7 +6,7 @@ use Rattle.hare_tree.specs.declared.place.Fault.{Fault}
 use Rattle.hare_tree.specs.declared.stop.Stop.{Stop}
 use Rattle.hare_tree.specs.declared.stop.Stop.TheVariants as stop
 use Rattle.hare_tree.specs.declared.tree.FileTree.{FileTree}
-use Rattle.hare_lex.proofs.Ordered.{tokens_are_in_order}
+use Rattle.hare_lex.proofs.Order.Ordered.{tokens_are_in_order}
 use Rattle.hare_decl.specs.Answers.{IsSource, Stops}
 use Rattle.hare_names.specs.Answers.{IsFileOf}
 use Rattle.hare_sources.specs.Files.{most_of_all, bytes_of, IsRead, IsFaultOfFile, AreReadFrom, IsFaultFrom, AreRead, IsFaultOfFiles}

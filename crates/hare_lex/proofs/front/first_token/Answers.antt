@@ -1,6 +1,6 @@
 use Rattle.std.proofs.Common.{sym, subst}
 use Rattle.hare_lex.specs.Fronts.{Sound}
-use Rattle.hare_lex.proofs.Sound.{front_sound}
+use Rattle.hare_lex.proofs.Sound.Tokens.{front_sound}
 use Rattle.hare_lex.proofs.front.first_token.Goals as goal
 
 pub returns-clause-stands : goal.returns-clause-stands

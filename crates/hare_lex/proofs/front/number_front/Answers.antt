@@ -1,5 +1,5 @@
 use Rattle.std.proofs.Common.{sym, subst, ◌<◌}
-use Rattle.hare_lex.proofs.SoundNumbers.{number_some}
+use Rattle.hare_lex.proofs.Sound.Numbers.{number_some}
 use Rattle.hare_lex.specs.declared.number.Number as number
 use Rattle.hare_lex.proofs.front.number_front.Goals as goal
 

@@ -2,7 +2,7 @@ use Rattle.std.proofs.Common.{Some, ap, ◌∙◌, drop, sym, subst, arith, fals
 use Rattle.std.proofs.lemmas.List.{drop-drop}
 use Rattle.hare_lex.specs.Fronts.{IsGapPart}
 use Rattle.hare_lex.specs.Lexing.{skipped}
-use Rattle.hare_lex.proofs.GapParts.{past_part}
+use Rattle.hare_lex.proofs.Turns.GapParts.{past_part}
 use Rattle.hare_lex.proofs.gap.gap_len.Goals as goal
 
 pub parts-preserved : goal.parts-preserved

@@ -1,5 +1,5 @@
 use Rattle.std.proofs.Common.{sym, ◌∙◌, arith}
-use Rattle.hare_lex.proofs.GapParts.{blanks_part, comment_part, no_part}
+use Rattle.hare_lex.proofs.Turns.GapParts.{blanks_part, comment_part, no_part}
 use Rattle.hare_lex.proofs.gap.gap_part.Goals as goal
 
 pub returns-then-blanks-gt0 : goal.returns-then-blanks-gt0

@@ -1,4 +1,4 @@
-use Rattle.hare_lex.proofs.Shorter.{no_longer}
+use Rattle.hare_lex.proofs.Order.Shorter.{no_longer}
 use Rattle.hare_lex.proofs.law.text_is_no_longer.Goals as goal
 
 pub returns : goal.returns

@@ -1,4 +1,4 @@
-use Rattle.hare_lex.proofs.Ordered.{tokens_are_few, kept_are_few}
+use Rattle.hare_lex.proofs.Order.Ordered.{tokens_are_few, kept_are_few}
 use Rattle.hare_lex.proofs.law.tokens_are_few.Goals as goal
 
 pub returns-clause-tokens : goal.returns-clause-tokens

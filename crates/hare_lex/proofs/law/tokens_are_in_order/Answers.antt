@@ -1,4 +1,4 @@
-use Rattle.hare_lex.proofs.Ordered.{tokens_are_in_order, kept_are_in_order}
+use Rattle.hare_lex.proofs.Order.Ordered.{tokens_are_in_order, kept_are_in_order}
 use Rattle.hare_lex.proofs.law.tokens_are_in_order.Goals as goal
 
 pub returns-clause-tokens : goal.returns-clause-tokens

@@ -3,7 +3,7 @@ use Rattle.hare_tree.specs.declared.place.Place.{Place}
 use Rattle.hare_tree.specs.Tokens.{place_at}
 use Rattle.hare_lex.specs.Lexing.{advanced}
 use Rattle.hare_lex.specs.Stops.{Stopped}
-use Rattle.hare_lex.proofs.Progress.{place_more}
+use Rattle.hare_lex.proofs.Turns.Progress.{place_more}
 use Rattle.hare_lex.proofs.lexer.not_utf8.Goals as goal
 
 pub returns : goal.returns

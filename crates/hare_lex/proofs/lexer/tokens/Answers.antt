@@ -1,5 +1,5 @@
-use Rattle.hare_lex.proofs.Unique.{only_tokens, only_break}
-use Rattle.hare_lex.proofs.Ordered.{found_in_order}
+use Rattle.hare_lex.proofs.Whole.Unique.{only_tokens, only_break}
+use Rattle.hare_lex.proofs.Order.Ordered.{found_in_order}
 use Rattle.hare_lex.proofs.lexer.tokens.Goals as goal
 
 pub returns-clause-order : goal.returns-clause-order

@@ -1,8 +1,8 @@
 use Rattle.std.proofs.Common.{◌≡◌, ◌∙◌, ◌++◌, [], ◌∷◌, ap, arith, length}
 use Rattle.std.proofs.lemmas.Bool.Decides.{nat_tests}
 use Rattle.hare_lex.specs.Lexing.{advanced}
-use Rattle.hare_lex.proofs.Progress.{reached_at, at_more, at_lines, at_columns, all_read, broken_at}
-use Rattle.hare_lex.proofs.Turn.{token_read, joined, gap_to}
+use Rattle.hare_lex.proofs.Turns.Progress.{reached_at, at_more, at_lines, at_columns, all_read, broken_at}
+use Rattle.hare_lex.proofs.Turns.Turn.{token_read, joined, gap_to}
 use Rattle.hare_lex.proofs.lexer.tokens_of.Goals as goal
 
 pub advanced-at-requires-clause-columns : goal.advanced-at-requires-clause-columns

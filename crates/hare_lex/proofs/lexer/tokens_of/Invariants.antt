@@ -1,5 +1,5 @@
 use Rattle.std.proofs.Common.{length}
-use Rattle.hare_lex.proofs.Progress.{Reached}
+use Rattle.hare_lex.proofs.Turns.Progress.{Reached}
 use Rattle.hare_lex.proofs.lexer.tokens_of.Given as goal
 
 abbrev pub invariant-loop-text : goal.invariant-loop-text

@@ -17,9 +17,9 @@ use Rattle.hare_lex.specs.declared.stop.LexStop.{LexStop}
 use Rattle.hare_lex.specs.Lexing.{step, advanced}
 use Rattle.hare_lex.specs.Order.{is_before, AreOfFile, Ascend, AreInOrder, TokensAreInOrder, KeptAreInOrder}
 use Rattle.hare_lex.specs.Sizes.{AreFew, TokensAreFew, KeptAreFew}
-use Rattle.hare_lex.proofs.Firsts.{first_of_kind}
-use Rattle.hare_lex.proofs.Progress.{place_more}
-use Rattle.hare_lex.proofs.Shorter.{no_longer}
+use Rattle.hare_lex.proofs.Fronts.Firsts.{first_of_kind}
+use Rattle.hare_lex.proofs.Turns.Progress.{place_more}
+use Rattle.hare_lex.proofs.Order.Shorter.{no_longer}
 
 -- ---- places
 

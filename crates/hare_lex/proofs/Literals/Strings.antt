@@ -5,8 +5,8 @@ use Rattle.std.specs.List.{AllByRecursion}
 use Rattle.hare_tree.specs.Spelling.{IsEscape, IsPart, spelled, decoded}
 use Rattle.hare_tree.specs.Tokens.{holds}
 use Rattle.hare_lex.specs.Lexing.{escape, bad_escape, unescaped}
-use Rattle.hare_lex.proofs.Lists.{and_left, and_right}
-use Rattle.hare_lex.proofs.Escapes.{escape_read, escape_holds, eq_of}
+use Rattle.hare_lex.proofs.Fronts.Lists.{and_left, and_right}
+use Rattle.hare_lex.proofs.Literals.Escapes.{escape_read, escape_holds, eq_of}
 
 -- ---- parts
 

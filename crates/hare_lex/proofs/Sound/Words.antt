@@ -11,10 +11,10 @@ use Rattle.hare_tree.specs.Spelling.{IsSpellingOf}
 use Rattle.hare_tree.specs.Tokens.{Fits, Break}
 use Rattle.hare_lex.specs.declared.front.Found.TheVariants as found
 use Rattle.hare_lex.specs.Lexing.{word_front, text_of}
-use Rattle.hare_lex.proofs.Lists.{and_left, and_right, and_both, run_passes, run_most, run_within}
-use Rattle.hare_lex.proofs.Firsts.{is_first, keyword_is_word}
+use Rattle.hare_lex.proofs.Fronts.Lists.{and_left, and_right, and_both, run_passes, run_most, run_within}
+use Rattle.hare_lex.proofs.Fronts.Firsts.{is_first, keyword_is_word}
 use Rattle.hare_lex.specs.Fronts.{token_at, Standing, Sound}
-use Rattle.hare_lex.proofs.Standing.{letter_not, no_fraction, standing, fits_by, nothing_small, nowhere, len_front}
+use Rattle.hare_lex.proofs.Fronts.Standing.{letter_not, no_fraction, standing, fits_by, nothing_small, nowhere, len_front}
 
 -- a letter may stand in a word
 letter_word : (c : ℕ) → is_letter c ≡ true → is_word_byte c ≡ true

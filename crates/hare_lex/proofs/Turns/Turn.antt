@@ -7,9 +7,9 @@ use Rattle.hare_tree.specs.declared.token.Suffix.{Suffix}
 use Rattle.hare_tree.specs.declared.token.Token.{Token}
 use Rattle.hare_tree.specs.Tokens.{Gap, is_path_mark}
 use Rattle.hare_lex.specs.Lexing.{advanced, text_of, skipped}
-use Rattle.hare_lex.proofs.Lists.{front_is, behind_is}
+use Rattle.hare_lex.proofs.Fronts.Lists.{front_is, behind_is}
 use Rattle.hare_lex.specs.Fronts.{Standing, token_at}
-use Rattle.hare_lex.proofs.Progress.{Reached, reached_more, gap_skipped}
+use Rattle.hare_lex.proofs.Turns.Progress.{Reached, reached_more, gap_skipped}
 
 -- whether a token is the mark `::` is told by its spelling too
 pub path_mark_text : (k : TokenKind) (s : List ℕ) → is_path_mark k (text_of k s) ≡ is_path_mark k s

@@ -7,7 +7,7 @@ use Rattle.std.proofs.lemmas.Bool.Decides.{nat_tests}
 use Rattle.hare_tree.specs.Words.{is_blank, is_not_feed}
 use Rattle.hare_tree.specs.Tokens.{Gap, ends_line, no_gap}
 use Rattle.hare_lex.specs.Lexing.{skipped}
-use Rattle.hare_lex.proofs.Lists.{and_left, and_right}
+use Rattle.hare_lex.proofs.Fronts.Lists.{and_left, and_right}
 
 neither : (a b : Bool) → not (a || b) ≡ true → (a ≡ false) × (b ≡ false)
 neither false false h = (refl, refl)

@@ -12,13 +12,13 @@ use Rattle.hare_tree.specs.Tokens.{Fits}
 use Rattle.hare_lex.specs.declared.front.Found.{Found}
 use Rattle.hare_lex.specs.declared.front.Found.TheVariants as found
 use Rattle.hare_lex.specs.Lexing.{at_front, word_front, number_front, number_at}
-use Rattle.hare_lex.proofs.Lists.{run_within, same_front}
-use Rattle.hare_lex.proofs.Numbers.{number_sound, number_value, number_within}
-use Rattle.hare_lex.proofs.Same.{alike}
+use Rattle.hare_lex.proofs.Fronts.Lists.{run_within, same_front}
+use Rattle.hare_lex.proofs.Literals.Numbers.{number_sound, number_value, number_within}
+use Rattle.hare_lex.proofs.Whole.Same.{alike}
 use Rattle.hare_lex.specs.Fronts.{token_at}
-use Rattle.hare_lex.proofs.Standing.{nowhere, kind_first, len_front, digit_not}
-use Rattle.hare_lex.proofs.SoundWords.{word_of, rest_of, front_word, word_longest}
-use Rattle.hare_lex.proofs.SoundNumbers.{number_word, number_of, number_longest, digit_kind}
+use Rattle.hare_lex.proofs.Fronts.Standing.{nowhere, kind_first, len_front, digit_not}
+use Rattle.hare_lex.proofs.Sound.Words.{word_of, rest_of, front_word, word_longest}
+use Rattle.hare_lex.proofs.Sound.Numbers.{number_word, number_of, number_longest, digit_kind}
 
 -- ---- words
 

@@ -10,7 +10,7 @@ use Rattle.std.proofs.lemmas.Bool.Decides.{nat_tests}
 use Rattle.hare_tree.specs.Spelling.{escaped, hex_len, MayStand, is_hex, IsEscape}
 use Rattle.hare_tree.specs.Tokens.{holds}
 use Rattle.hare_lex.specs.Lexing.{escape, hex_escape, hex_value_of, hex_end, scalar_of, value_of}
-use Rattle.hare_lex.proofs.Lists.{and_left, and_right}
+use Rattle.hare_lex.proofs.Fronts.Lists.{and_left, and_right}
 
 -- ---- what is read as an escape is one
 

@@ -8,8 +8,8 @@ use Rattle.std.proofs.lemmas.Bool.Decides.{nat_tests}
 use Rattle.hare_tree.specs.Spelling.{IsEscape, IsOne, is_character, escaped}
 use Rattle.hare_tree.specs.Tokens.{holds}
 use Rattle.hare_lex.specs.Lexing.{escape, one, character, whole_escape}
-use Rattle.hare_lex.proofs.Lists.{and_left, and_right, and_both}
-use Rattle.hare_lex.proofs.Escapes.{escape_read, escape_stands, escape_holds}
+use Rattle.hare_lex.proofs.Fronts.Lists.{and_left, and_right, and_both}
+use Rattle.hare_lex.proofs.Literals.Escapes.{escape_read, escape_stands, escape_holds}
 
 -- ---- one character
 

@@ -14,13 +14,13 @@ use Rattle.hare_tree.specs.Tokens.{Break, holds, is_quote}
 use Rattle.hare_lex.specs.declared.front.Found.{Found}
 use Rattle.hare_lex.specs.declared.front.Found.TheVariants as found
 use Rattle.hare_lex.specs.Lexing.{text_of, string_text, inner, unescaped, bad_escape, closing, one, string_end, rune_end, longest}
-use Rattle.hare_lex.proofs.Firsts.{is_first}
-use Rattle.hare_lex.proofs.Quotes.{closing_found, closing_holds, closing_none, raw_holds, holds_raw}
-use Rattle.hare_lex.proofs.Strings.{good_parts, bad_parts, parts_hold}
-use Rattle.hare_lex.proofs.Escapes.{no_escape}
-use Rattle.hare_lex.proofs.Runes.{one_holds, one_stands, one_some, one_small}
+use Rattle.hare_lex.proofs.Fronts.Firsts.{is_first}
+use Rattle.hare_lex.proofs.Literals.Quotes.{closing_found, closing_holds, closing_none, raw_holds, holds_raw}
+use Rattle.hare_lex.proofs.Literals.Strings.{good_parts, bad_parts, parts_hold}
+use Rattle.hare_lex.proofs.Literals.Escapes.{no_escape}
+use Rattle.hare_lex.proofs.Literals.Runes.{one_holds, one_stands, one_some, one_small}
 use Rattle.hare_lex.specs.Fronts.{Standing, Sound}
-use Rattle.hare_lex.proofs.Standing.{not_left_out, no_fraction, standing, fits_by, nothing_small}
+use Rattle.hare_lex.proofs.Fronts.Standing.{not_left_out, no_fraction, standing, fits_by, nothing_small}
 
 -- ---- literals
 

@@ -16,19 +16,19 @@ use Rattle.hare_tree.specs.Tokens.{Break, BadByte, BadEscape, BadRune, Unclosed,
 use Rattle.hare_lex.specs.declared.front.Found.{Found}
 use Rattle.hare_lex.specs.declared.front.Found.TheVariants as found
 use Rattle.hare_lex.specs.Lexing.{at_front, mark_front, closing, escape, one, bad_escape, string_end, rune_end, longest}
-use Rattle.hare_lex.proofs.Lists.{and_left, and_both}
-use Rattle.hare_lex.proofs.Firsts.{is_first, first_of_kind}
+use Rattle.hare_lex.proofs.Fronts.Lists.{and_left, and_both}
+use Rattle.hare_lex.proofs.Fronts.Firsts.{is_first, first_of_kind}
 use Rattle.hare_lex.proofs.Longest.{longest_listed}
-use Rattle.hare_lex.proofs.Escapes.{escape_read}
-use Rattle.hare_lex.proofs.Strings.{bad_here}
-use Rattle.hare_lex.proofs.Runes.{one_some, one_small}
-use Rattle.hare_lex.proofs.Numbers.{decimal}
-use Rattle.hare_lex.proofs.Same.{parts_bad}
+use Rattle.hare_lex.proofs.Literals.Escapes.{escape_read}
+use Rattle.hare_lex.proofs.Literals.Strings.{bad_here}
+use Rattle.hare_lex.proofs.Literals.Runes.{one_some, one_small}
+use Rattle.hare_lex.proofs.Literals.Numbers.{decimal}
+use Rattle.hare_lex.proofs.Whole.Same.{parts_bad}
 use Rattle.hare_lex.specs.Fronts.{token_at}
-use Rattle.hare_lex.proofs.Standing.{nowhere, kind_first, first_same, left_out_is_word, word_letter}
-use Rattle.hare_lex.proofs.SoundWords.{word_of}
-use Rattle.hare_lex.proofs.WholeWords.{word_same, front_letter, number_same, front_digit, great_front, small_front}
-use Rattle.hare_lex.proofs.WholeLiterals.{string_found, rune_found, open_none, front_string, front_raw, front_rune, front_at_sign, front_other}
+use Rattle.hare_lex.proofs.Fronts.Standing.{nowhere, kind_first, first_same, left_out_is_word, word_letter}
+use Rattle.hare_lex.proofs.Sound.Words.{word_of}
+use Rattle.hare_lex.proofs.Whole.Words.{word_same, front_letter, number_same, front_digit, great_front, small_front}
+use Rattle.hare_lex.proofs.Whole.Literals.{string_found, rune_found, open_none, front_string, front_raw, front_rune, front_at_sign, front_other}
 
 -- ---- literals
 

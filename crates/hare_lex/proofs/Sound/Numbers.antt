@@ -13,10 +13,10 @@ use Rattle.hare_tree.specs.Tokens.{Fits}
 use Rattle.hare_lex.specs.declared.front.Found.{Found}
 use Rattle.hare_lex.specs.declared.front.Found.TheVariants as found
 use Rattle.hare_lex.specs.Lexing.{number_front, number_at, radix_of}
-use Rattle.hare_lex.proofs.Firsts.{is_first, first_of_kind}
-use Rattle.hare_lex.proofs.Numbers.{digits_at, number_sound, number_value, number_most}
+use Rattle.hare_lex.proofs.Fronts.Firsts.{is_first, first_of_kind}
+use Rattle.hare_lex.proofs.Literals.Numbers.{digits_at, number_sound, number_value, number_most}
 use Rattle.hare_lex.specs.Fronts.{token_at, Sound}
-use Rattle.hare_lex.proofs.Standing.{first_same, digit_not, not_left_out, standing, fits_by, nowhere, len_front}
+use Rattle.hare_lex.proofs.Fronts.Standing.{first_same, digit_not, not_left_out, standing, fits_by, nowhere, len_front}
 
 -- what begins with a digit is a number
 pub digit_kind : (k : TokenKind) (c : ℕ) → is_ascii_digit c ≡ true → is_first k c ≡ true → k ≡ Number

@@ -11,11 +11,11 @@ use Rattle.hare_tree.specs.Spelling.{IsSpelling}
 use Rattle.hare_lex.specs.declared.stop.LexStop.{LexStop}
 use Rattle.hare_lex.specs.declared.stop.LexStop.TheVariants as stop
 use Rattle.hare_lex.specs.Stops.{Stops, GivesTokens, GivesFault}
-use Rattle.hare_lex.proofs.Lists.{same_front}
-use Rattle.hare_lex.proofs.Firsts.{first_of_kind}
-use Rattle.hare_lex.proofs.Gaps.{gap_is}
-use Rattle.hare_lex.proofs.Same.{alike}
-use Rattle.hare_lex.proofs.Whole.{fits_same, break_stands, break_once}
+use Rattle.hare_lex.proofs.Fronts.Lists.{same_front}
+use Rattle.hare_lex.proofs.Fronts.Firsts.{first_of_kind}
+use Rattle.hare_lex.proofs.Turns.Gaps.{gap_is}
+use Rattle.hare_lex.proofs.Whole.Same.{alike}
+use Rattle.hare_lex.proofs.Whole.Tokens.{fits_same, break_stands, break_once}
 
 -- nothing is left, or a break
 abbrev pub Final : Bool → List ℕ → Type 0

@@ -8,7 +8,7 @@ use Rattle.hare_tree.specs.declared.token.TokenKind.{TokenKind}
 use Rattle.hare_tree.specs.declared.token.TokenKind.TheVariants.{Name, Keyword, Number, Str, RuneLit, Mark, End}
 use Rattle.hare_tree.specs.declared.token.Suffix.{Suffix}
 use Rattle.hare_tree.specs.Spelling.{IsSpellingOf, IsEscape, IsPart, IsQuoted, IsRaw, spelled, decoded}
-use Rattle.hare_lex.proofs.Runes.{simple_below}
+use Rattle.hare_lex.proofs.Literals.Runes.{simple_below}
 
 ascii_len : (v : ℕ) → v < 128 → length (encode_utf8 v) ≤ 1
 ascii_len v h = omega (arith, length-encode v, len_utf8_ascii v h)

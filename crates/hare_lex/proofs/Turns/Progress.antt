@@ -13,7 +13,7 @@ use Rattle.hare_lex.specs.declared.stop.LexStop.{LexStop}
 use Rattle.hare_lex.specs.declared.stop.LexStop.TheVariants as stop
 use Rattle.hare_lex.specs.Stops.{Stops, Stopped}
 use Rattle.hare_lex.specs.Lexing.{skipped, step, advanced}
-use Rattle.hare_lex.proofs.Lists.{and_left, and_right, run_within}
+use Rattle.hare_lex.proofs.Fronts.Lists.{and_left, and_right, run_within}
 
 -- These tokens have been read, up to the place, and with the tokens of the rest they are the tokens of the file.
 pub record Reached (file : ℕ) (src : List ℕ) (tokens : List Token) (place : Place) (behind_path : Bool) (rest : List ℕ) : Type 0 where

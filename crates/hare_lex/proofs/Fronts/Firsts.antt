@@ -10,7 +10,7 @@ use Rattle.hare_tree.specs.declared.token.TokenKind.TheVariants.{Name, Keyword, 
 use Rattle.hare_tree.specs.declared.token.Suffix.{Suffix}
 use Rattle.hare_tree.specs.Words.{is_letter, is_word, keywords, marks, radix, base_mark, Base, Decimal, Hexadecimal, Octal, Binary, is_listed}
 use Rattle.hare_tree.specs.Spelling.{IsSpellingOf}
-use Rattle.hare_lex.proofs.Lists.{and_left, and_right, listed_case}
+use Rattle.hare_lex.proofs.Fronts.Lists.{and_left, and_right, listed_case}
 
 -- a byte that begins neither a word, a number nor a literal, and is not `@`
 abbrev pub is_other : ℕ → Bool

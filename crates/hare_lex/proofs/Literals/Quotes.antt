@@ -4,7 +4,7 @@ use Rattle.std.proofs.lemmas.Bool.Decides.{nat_tests}
 use Rattle.std.specs.List.{list_all}
 use Rattle.hare_tree.specs.Tokens.{holds}
 use Rattle.hare_lex.specs.Lexing.{closing, takes}
-use Rattle.hare_lex.proofs.Lists.{and_left, and_right, and_both}
+use Rattle.hare_lex.proofs.Fronts.Lists.{and_left, and_right, and_both}
 
 -- the quote that is found closes what stands before it
 pub record Closes (q : ℕ) (t : Bool) (i : ℕ) (s : List ℕ) (n : ℕ) : Type 0 where

@@ -7,8 +7,8 @@ use Rattle.hare_tree.specs.Tokens.{IsComment, ends_line, no_gap}
 use Rattle.hare_lex.specs.declared.gap.GapPart.{GapPart}
 use Rattle.hare_lex.specs.Fronts.{IsPart, IsGapPart}
 use Rattle.hare_lex.specs.Lexing.{begins_comment, skipped}
-use Rattle.hare_lex.proofs.Lists.{and_left, and_right, run_passes, run_within}
-use Rattle.hare_lex.proofs.Gaps.{past_blank, past_body}
+use Rattle.hare_lex.proofs.Fronts.Lists.{and_left, and_right, run_passes, run_within}
+use Rattle.hare_lex.proofs.Turns.Gaps.{past_blank, past_body}
 
 -- ---- blanks
 

@@ -6,9 +6,9 @@ use Rattle.hare_tree.specs.Tokens.{holds}
 use Rattle.hare_lex.specs.declared.front.Found.{Found}
 use Rattle.hare_lex.specs.declared.front.Found.TheVariants as found
 use Rattle.hare_lex.specs.Lexing.{at_front, string_front, raw_front, rune_front, mark_front, closing, one, bad_escape, string_end, rune_end}
-use Rattle.hare_lex.proofs.Quotes.{closing_found, closing_holds}
-use Rattle.hare_lex.proofs.SoundMarks.{NoOther}
-use Rattle.hare_lex.proofs.SoundLiterals.{lit_take}
+use Rattle.hare_lex.proofs.Literals.Quotes.{closing_found, closing_holds}
+use Rattle.hare_lex.proofs.Sound.Marks.{NoOther}
+use Rattle.hare_lex.proofs.Sound.Literals.{lit_take}
 
 -- ---- literals
 

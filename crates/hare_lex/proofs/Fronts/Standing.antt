@@ -12,8 +12,8 @@ use Rattle.hare_tree.specs.Spelling.{IsSpellingOf}
 use Rattle.hare_tree.specs.Tokens.{Fits}
 use Rattle.hare_lex.specs.Lexing.{text_of, longest}
 use Rattle.hare_lex.specs.Fronts.{token_at, Standing}
-use Rattle.hare_lex.proofs.Lists.{and_left, listed_case}
-use Rattle.hare_lex.proofs.Firsts.{all_listed, is_first, is_other, first_of_kind}
+use Rattle.hare_lex.proofs.Fronts.Lists.{and_left, listed_case}
+use Rattle.hare_lex.proofs.Fronts.Firsts.{all_listed, is_first, is_other, first_of_kind}
 
 -- the text begins with the first byte of a word at its front
 pub first_same : (s w more : List ℕ) → s ≡ w ++ more → 0 < length w → get_or w 0 0 ≡ get_or s 0 0
