@@ -154,8 +154,8 @@ pub params_reads : (f n : ℕ) → ReadsTo f n → (h : Head) (ts : Nodes) → s
     (w : List Token) (st : List Symbol) (g : Group) (gs : List Group) → Edge so.Params (front w) (branch h ts) →
     Claim f so.Params h ts w st g gs
 params_reads f n ih h ts z i p w st g gs x =
-    sort_reads f n ih so.Params ki.Params si.LeftParen (pi.List so.Param ∷ pi.Fixed si.RightParen ∷ []) h ts z i refl refl (λ h e. tt)
-    (λ e. refl) p w st g gs x (λ q c. params_close)
+    sort_reads f n ih so.Params ki.Params si.LeftParen (pi.List so.Param ∷ pi.Fixed si.RightParen ∷ []) h ts z i p w st g gs
+    (record { form = refl; row_is = refl; owns = λ h e. tt; nothing = λ e. refl; clear = λ q c. params_close }) x
 
 -- parameters begin with `(` and end with `)`
 record Bracketed (f : ℕ) (t : Node) : Type 0 where

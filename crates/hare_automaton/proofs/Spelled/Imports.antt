@@ -205,7 +205,8 @@ names_reads f n ih h (more t (more u us)) z i p w st g gs =
     (open_import f t q si.PathMark [] (part ru.AfterUseMark ∷ []) mark_goes_on (sign_token f si.LeftBrace ∷ tail) st (g ∷ gs)
     ∙ run_uses f (sign_token f si.LeftBrace) tail ru.AfterUseMark st _ (ch.Close ki.ImportPath ∷ []) (rest_of 4 ki.UseNames) refl
     ∙ ap (λ v. run f tail (rest_of 4 ki.UseNames ++ st) (begun (start_of f) (v ∷ []) ∷ g ∷ gs)) (sym q.plain_is)
-    ∙ read_some f n ih so.Name si.RightBrace m names_close u us zu zs k'.0 k'.1 e.0 e.1
+    ∙ read_some f n ih so.Name si.RightBrace m names_close u us
+    (record { small = zu; others_small = zs; shaped = k'.0; others = k'.1; ends = e.0; others_end = e.1 })
     (sign_token f si.RightBrace ∷ sign_token f si.Semicolon ∷ w)
     (sy.Want si.RightBrace ∷ sy.Want si.Semicolon ∷ sy.Close ki.UseNames ∷ st) (begun (start_of f) (plain f t ∷ [])) (g ∷ gs)
     (class_sign f si.RightBrace)

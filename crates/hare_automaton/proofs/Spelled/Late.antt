@@ -171,9 +171,10 @@ tuple_reads f n ih s h (more u (more v vs)) z i t p w st g gs =
     ∙ before_sign f n ih expr si.Comma u zu refl k.0 refl e.0 tail (part ru.AfterValue ∷ (left s 16 ++ st)) (begun (start_of f) []) (g ∷ gs)
     ∙ run_uses f (sign_token f si.Comma) tail ru.AfterValue (left s 16 ++ st) (begun (start_of f) (plain f u ∷ []) ∷ g ∷ gs) []
     (rest_of 3 ki.Tuple) refl
-    ∙ read_some f n ih expr si.RightParen m arguments_close v vs zv zs k'.0 k'.1 e'.0 e'.1 (sign_token f si.RightParen ∷ w)
-    (sy.Want si.RightParen ∷ sy.Close ki.Tuple ∷ (left s 16 ++ st)) (begun (start_of f) (plain f u ∷ [])) (g ∷ gs)
-    (class_sign f si.RightParen)
+    ∙ read_some f n ih expr si.RightParen m arguments_close v vs
+    (record { small = zv; others_small = zs; shaped = k'.0; others = k'.1; ends = e'.0; others_end = e'.1 })
+    (sign_token f si.RightParen ∷ w) (sy.Want si.RightParen ∷ sy.Close ki.Tuple ∷ (left s 16 ++ st)) (begun (start_of f) (plain f u ∷ []))
+    (g ∷ gs) (class_sign f si.RightParen)
     ∙ run_want f (sign_token f si.RightParen) w si.RightParen (sy.Close ki.Tuple ∷ (left s 16 ++ st)) _ (class_sign f si.RightParen)
     ∙ closed f h ki.Tuple false (more u (more v vs)) i (λ y. own) w (left s 16 ++ st) g gs)
 
@@ -196,8 +197,8 @@ open_bracket f n ih s t z c l k w st g gs =
     let r : row (ru.Climb (least s) (level_at t)) (cl.Sign si.LeftBracket) ≡
     Uses (ch.Over ∷ []) (part ru.InIndex ∷ part (ru.Climb (least s) 15) ∷ []) =
     rw (tops_least s 15 l, le_true 15 (level_at t) v) refl in
-    operand_reads f n ih s 15 15 t z c l (omega arith) k (sign_token f si.LeftBracket ∷ w) st g gs (omega arith)
-    (tight_high 15 (level_at t) v q)
+    operand_reads f n ih s 15 15 t (record { small = z; expression = c; top = l; within = omega arith; shaped = k })
+    (sign_token f si.LeftBracket ∷ w) st g gs (omega arith) (tight_high 15 (level_at t) v q)
     ∙ run_uses f (sign_token f si.LeftBracket) w (ru.Climb (least s) (level_at t)) st (add (plain f t) (g ∷ gs)) (ch.Over ∷ [])
     (part ru.InIndex ∷ part (ru.Climb (least s) 15) ∷ []) r
     ∙ run_groups f w (part ru.InIndex ∷ part (ru.Climb (least s) 15) ∷ st) _ _ (over_last (start_of f) (plain f t) g gs)

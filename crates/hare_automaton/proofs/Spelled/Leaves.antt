@@ -236,17 +236,31 @@ path_reads f s h ts i t p w st g gs x =
 
 -- ---- one kid and more, between commas
 
-pub read_some : (f n : ℕ) → ReadsTo f n → (s : Sort) (d : Sign) (m : ℕ) → Closer s d → (t : Node) (ts : Nodes) → size_of t ≤ n →
-    sizes_of ts ≤ n → is_shaped s t ≡ true → are_kids m (pi.More s ∷ []) ts ≡ true → ends_before (behind_item (edges ts)) (edge t) ≡ true →
-    items_end (edges ts) ≡ true → (w : List Token) (st : List Symbol) (g : Group) (gs : List Group) → front w ≡ cl.Sign d →
+-- a first item, and those behind it
+pub record FirstAndMore (n : ℕ) (s : Sort) (m : ℕ) (t : Node) (ts : Nodes) : Type 0 where
+  -- the induction reaches the first
+  pub small : size_of t ≤ n
+  -- and the others
+  pub others_small : sizes_of ts ≤ n
+  -- the first is a tree of the sort
+  pub shaped : is_shaped s t ≡ true
+  -- the others are such as may stand behind it
+  pub others : are_kids m (pi.More s ∷ []) ts ≡ true
+  -- the first ends before the comma behind it
+  pub ends : ends_before (behind_item (edges ts)) (edge t) ≡ true
+  -- and so do the others
+  pub others_end : items_end (edges ts) ≡ true
+
+pub read_some : (f n : ℕ) → ReadsTo f n → (s : Sort) (d : Sign) (m : ℕ) → Closer s d → (t : Node) (ts : Nodes) → FirstAndMore n s m t ts →
+    (w : List Token) (st : List Symbol) (g : Group) (gs : List Group) → front w ≡ cl.Sign d →
     run f (spell f t ++ (all_led f (le.Before si.Comma) (spells f ts) ++ w)) (of s ∷ part (ru.More s) ∷ st) (g ∷ gs) ≡
     run f w st (filled f g (more t ts) ∷ gs)
-read_some f n ih s d m q t ts z zs h k e e' w st g gs o =
+read_some f n ih s d m q t ts i w st g gs o =
     let v = all_led f (le.Before si.Comma) (spells f ts) in
-    let r = read_more f n ih s d m q ts zs k e' w st (with_kids g (g.kids ++ plain f t ∷ [])) gs o in
+    let r = read_more f n ih s d m q ts i.others_small i.others i.others_end w st (with_kids g (g.kids ++ plain f t ∷ [])) gs o in
     let a : pull (front (v ++ w)) ≡ 0 = item_pull d (v ++ w) (edges ts) q.pulls r.next in
-    read_kid f n ih s t z q.sort h (v ++ w) (part (ru.More s) ∷ st) g gs (rw a (omega arith))
-    (item_stops d (v ++ w) (edges ts) t q.no_else q.no_comma e r.next) (q.anywhere (front (v ++ w)))
+    read_kid f n ih s t i.small q.sort i.shaped (v ++ w) (part (ru.More s) ∷ st) g gs (rw a (omega arith))
+    (item_stops d (v ++ w) (edges ts) t q.no_else q.no_comma i.ends r.next) (q.anywhere (front (v ++ w)))
     ∙ r.runs
     ∙ run_group f w st gs _ _ (fill_more f g t ts)
 
@@ -320,7 +334,8 @@ struct_reads f n ih s h (more (branch hp tp) (more u us)) z i t p w st g gs =
     refl
     ∙ ap (λ y. run f tail (rest_of 2 ki.StructLit ++ (left s 16 ++ st)) (begun (start_of f) (branch y none ∷ []) ∷ g ∷ gs))
     (sym (text_head f hp ki.TypePath ip op.1))
-    ∙ read_some f n ih so.FieldValue si.RightBrace (level h.kind h.text) fields_close u us zu zs k'.0 k'.1 e'.0 e'.1
+    ∙ read_some f n ih so.FieldValue si.RightBrace (level h.kind h.text) fields_close u us
+    (record { small = zu; others_small = zs; shaped = k'.0; others = k'.1; ends = e'.0; others_end = e'.1 })
     (sign_token f si.RightBrace ∷ w) (sy.Want si.RightBrace ∷ sy.Close ki.StructLit ∷ (left s 16 ++ st))
     (begun (start_of f) (branch (plain_head f hp) none ∷ [])) (g ∷ gs) (class_sign f si.RightBrace)
     ∙ run_want f (sign_token f si.RightBrace) w si.RightBrace (sy.Close ki.StructLit ∷ (left s 16 ++ st)) _ (class_sign f si.RightBrace)

@@ -212,8 +212,9 @@ values_reads f n ih h (more v vs) z i p w st g gs x =
     (run_led f expr (ru.Of so.Values) (ch.Open ∷ []) (rest_of 1 ki.Values) (spell f v ++ (y ++ w)) b.head (b.tail ++ (y ++ w)) b.changes
     b.symbols st (g ∷ gs) (ap (λ c. c ++ (y ++ w)) b.is) b.uses refl
     ∙ ap (λ c. run f (spell f v ++ (y ++ w)) (of expr ∷ (rest_of 1 ki.Values ++ st)) (begun c [] ∷ g ∷ gs)) (sym here)
-    ∙ read_some f n ih expr si.Arrow m values_close v vs zv zs k.0 k.1 e.0 e.1 w (sy.Close ki.Values ∷ st) (begun (start_of f) []) (g ∷ gs)
-    (arrow_is (front w) x.closed)
+    ∙ read_some f n ih expr si.Arrow m values_close v vs
+    (record { small = zv; others_small = zs; shaped = k.0; others = k.1; ends = e.0; others_end = e.1 }) w (sy.Close ki.Values ∷ st)
+    (begun (start_of f) []) (g ∷ gs) (arrow_is (front w) x.closed)
     ∙ closed f h ki.Values false (more v vs) i (λ c. own) w st g gs)
 
 -- ---- loops

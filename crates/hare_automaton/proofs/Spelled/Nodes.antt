@@ -77,26 +77,43 @@ closed f h k false ts i e w st g gs =
 pub stack : (ss ls st : List Symbol) (k : Kind) → ((ss ++ sy.Close k ∷ []) ++ ls) ++ st ≡ ss ++ sy.Close k ∷ (ls ++ st)
 stack ss ls st k = append_assoc (ss ++ sy.Close k ∷ []) ls st ∙ append_assoc ss (sy.Close k ∷ []) (ls ++ st)
 
+-- a tree whose form begins with a sign, before a token of the class
+pub record Opening (s : Sort) (k : Kind) (d : Sign) (ps : List Piece) (h : Head) (ts : Nodes) (c : Class) : Type 0 where
+  -- its kind
+  pub kind_is : h.kind ≡ k
+  -- its form: the sign, and the pieces behind it
+  pub form : form_of k ≡ pi.Fixed d ∷ ps
+  -- where a tree of the sort is wanted, the sign opens one of the kind
+  pub row_is : row (ru.Of s) (cl.Sign d) ≡ before (opens k) (left s (level h.kind h.text))
+  -- it is a tree of the sort
+  pub shaped : Whole s h ts
+  -- its text is such as the pieces read
+  pub owns : Owns h ps
+  -- where no piece reads a text it has none
+  pub nothing : has_own ps ≡ false → is_own ow.Nothing h ≡ true
+  -- its right edge lets the class stand behind it
+  pub edge : Edge s c (branch h ts)
+  -- each piece sees where it ends
+  pub clear : Clear ps c
+
 pub opens_reads : (f n : ℕ) → ReadsTo f n → (s : Sort) (k : Kind) (d : Sign) (ps : List Piece) (h : Head) (ts : Nodes) → sizes_of ts ≤ n →
-    h.kind ≡ k → form_of k ≡ pi.Fixed d ∷ ps → row (ru.Of s) (cl.Sign d) ≡ before (opens k) (left s (level h.kind h.text)) → Whole s h ts →
-    Owns h ps → (has_own ps ≡ false → is_own ow.Nothing h ≡ true) → (w : List Token) (st : List Symbol) (g : Group) (gs : List Group) →
-    Edge s (front w) (branch h ts) → Clear ps (front w) → Claim f s h ts w st g gs
+    (w : List Token) (st : List Symbol) (g : Group) (gs : List Group) → Opening s k d ps h ts (front w) → Claim f s h ts w st g gs
 unfolding spell stops
-opens_reads f n ih s k d ps h ts z i q r p o e w st g gs x c =
-    let a : form_of h.kind ≡ pi.Fixed d ∷ ps = ap form_of i ∙ q in
+opens_reads f n ih s k d ps h ts z w st g gs o =
+    let a : form_of h.kind ≡ pi.Fixed d ∷ ps = ap form_of o.kind_is ∙ o.form in
     let ls = left s (level h.kind h.text) in
     let kids : are_kids (level h.kind h.text) (kid_pieces ps) ts ≡ true =
-    subst (λ y. are_kids (level h.kind h.text) (kid_pieces y) ts ≡ true) a p.kids in
-    let ends : kids_end ps (edges ts) ≡ true = subst (λ y. kids_end y (edges ts) ≡ true) a p.ends in
+    subst (λ y. are_kids (level h.kind h.text) (kid_pieces y) ts ≡ true) a o.shaped.kids in
+    let ends : kids_end ps (edges ts) ≡ true = subst (λ y. kids_end y (edges ts) ≡ true) a o.shaped.ends in
     let x' : (y : Sign) → front w ≡ cl.Sign y → form_stops y h true ps (stops_each y ts) ≡ true =
-    λ y j. subst (λ b. form_stops y h true b (stops_each y ts) ≡ true) a (x.stops_at y j) in
+    λ y j. subst (λ b. form_stops y h true b (stops_each y ts) ≡ true) a (o.edge.stops_at y j) in
     let r' : row (ru.Of s) (class_of (sign_token f d)) ≡ Uses (ch.Open ∷ []) ((symbols ps ++ sy.Close k ∷ []) ++ ls) =
-    rw (class_sign f d) (r ∙ (rw q refl)) in
+    rw (class_sign f d) (o.row_is ∙ (rw o.form refl)) in
     rw a (run_uses f (sign_token f d) (pieces_tokens f h ps (spells f ts) ++ w) (ru.Of s) st (g ∷ gs) (ch.Open ∷ [])
     ((symbols ps ++ sy.Close k ∷ []) ++ ls) r'
     ∙ ap (λ y. run f (pieces_tokens f h ps (spells f ts) ++ w) y (begun (start_of f) [] ∷ g ∷ gs)) (stack (symbols ps) ls st k)
-    ∙ read_pieces f n ih h _ ps false ts z kids ends o refl w (sy.Close k ∷ (ls ++ st)) (start_of f) [] (g ∷ gs) (λ y. true) x' c
-    ∙ closed f h k (has_own ps) ts i e w (ls ++ st) g gs)
+    ∙ read_pieces f n ih h _ ps false ts z kids ends o.owns refl w (sy.Close k ∷ (ls ++ st)) (start_of f) [] (g ∷ gs) (λ y. true) x' o.clear
+    ∙ closed f h k (has_own ps) ts o.kind_is o.nothing w (ls ++ st) g gs)
 
 -- ---- the rows of expressions
 

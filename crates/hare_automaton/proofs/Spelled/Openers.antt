@@ -64,8 +64,16 @@ word_reads f n ih s k d ps j h ts z i o t p w st g gs x =
     subst (λ y. row (ru.Of s) (cl.Sign d) ≡ before (opens k) (left s y)) (sym lv)
     (expr_row s (cl.Sign d) j o.starts o.statement t ∙ ap (λ y. before y (left s j)) o.row_is) in
     let own : is_own (own_of ps) h ≡ true = subst (λ y. is_own (own_of y) h ≡ true) (ap form_of i ∙ o.form) p.own in
-    opens_reads f n ih s k d ps h ts z i o.form r p (o.owns h own) (λ e. subst (λ y. is_own y h ≡ true) (o.nothing e) own) w st g gs x
-    (o.clear (front w) (edge_pull s (front w) h ts j lv t x))
+    opens_reads f n ih s k d ps h ts z w st g gs (record {
+      kind_is = i;
+      form = o.form;
+      row_is = r;
+      shaped = p;
+      owns = o.owns h own;
+      nothing = λ e. subst (λ y. is_own y h ≡ true) (o.nothing e) own;
+      edge = x;
+      clear = o.clear (front w) (edge_pull s (front w) h ts j lv t x);
+    })
 
 -- ---- prefix operators
 
@@ -380,18 +388,37 @@ opened_switch = record {
 
 -- ---- sorts of which each tree begins with one sign
 
--- a form of a sort of its own
+-- a form of a sort of its own, of a tree with this text, before a token of the class
+pub record SortForm (s : Sort) (k : Kind) (d : Sign) (ps : List Piece) (x : List ℕ) (c : Class) : Type 0 where
+  -- the sign, and the pieces behind it
+  pub form : form_of k ≡ pi.Fixed d ∷ ps
+  -- where a tree of the sort is wanted, the sign opens one of the kind
+  pub row_is : row (ru.Of s) (cl.Sign d) ≡ before (opens k) (left s (level k x))
+  -- the text of such a tree is the one that a piece reads
+  pub owns : (h : Head) → is_own (own_of ps) h ≡ true → Owns h ps
+  -- where no piece reads a text it has none
+  pub nothing : has_own ps ≡ false → own_of ps ≡ ow.Nothing
+  -- before what may stand behind the sort each piece sees where it ends
+  pub clear : pull c ≤ reach s (level k x) → closed_by s c ≡ true → Clear ps c
+
 pub sort_reads : (f n : ℕ) → ReadsTo f n → (s : Sort) (k : Kind) (d : Sign) (ps : List Piece) (h : Head) (ts : Nodes) → sizes_of ts ≤ n →
-    h.kind ≡ k → form_of k ≡ pi.Fixed d ∷ ps → row (ru.Of s) (cl.Sign d) ≡ before (opens k) (left s (level k h.text)) →
-    ((h : Head) → is_own (own_of ps) h ≡ true → Owns h ps) → (has_own ps ≡ false → own_of ps ≡ ow.Nothing) → Whole s h ts →
-    (w : List Token) (st : List Symbol) (g : Group) (gs : List Group) → Edge s (front w) (branch h ts) →
-    (pull (front w) ≤ reach s (level k h.text) → closed_by s (front w) ≡ true → Clear ps (front w)) → Claim f s h ts w st g gs
-sort_reads f n ih s k d ps h ts z i q r o e p w st g gs x c =
+    h.kind ≡ k → Whole s h ts → (w : List Token) (st : List Symbol) (g : Group) (gs : List Group) → SortForm s k d ps h.text (front w) →
+    Edge s (front w) (branch h ts) → Claim f s h ts w st g gs
+sort_reads f n ih s k d ps h ts z i p w st g gs o x =
     let lv : level h.kind h.text ≡ level k h.text = ap (λ y. level y h.text) i in
-    let r' : row (ru.Of s) (cl.Sign d) ≡ before (opens k) (left s (level h.kind h.text)) = rw lv r in
-    let own : is_own (own_of ps) h ≡ true = subst (λ y. is_own (own_of y) h ≡ true) (ap form_of i ∙ q) p.own in
+    let r : row (ru.Of s) (cl.Sign d) ≡ before (opens k) (left s (level h.kind h.text)) = rw lv o.row_is in
+    let own : is_own (own_of ps) h ≡ true = subst (λ y. is_own (own_of y) h ≡ true) (ap form_of i ∙ o.form) p.own in
     let m : pull (front w) ≤ reach s (level k h.text) = subst (λ y. pull (front w) ≤ reach s y) lv x.reaches in
-    opens_reads f n ih s k d ps h ts z i q r' p (o h own) (λ y. subst (λ v. is_own v h ≡ true) (e y) own) w st g gs x (c m x.closed)
+    opens_reads f n ih s k d ps h ts z w st g gs (record {
+      kind_is = i;
+      form = o.form;
+      row_is = r;
+      shaped = p;
+      owns = o.owns h own;
+      nothing = λ y. subst (λ v. is_own v h ≡ true) (o.nothing y) own;
+      edge = x;
+      clear = o.clear m x.closed;
+    })
 
 abbrev bound_pieces : List Piece
 bound_pieces = pi.Own ow.Name ∷ pi.Led si.Colon so.Type ∷ pi.Fixed si.Equals ∷ pi.Kid expr ∷ []
@@ -403,40 +430,58 @@ bound_clear c q = (refl, (refl, tt, refl, refl, (refl, at_of expr c q refl, tt))
 pub let_reads : (f n : ℕ) → ReadsTo f n → (h : Head) (ts : Nodes) → sizes_of ts ≤ n → h.kind ≡ ki.Let → Whole so.Statement h ts →
     (w : List Token) (st : List Symbol) (g : Group) (gs : List Group) → Edge so.Statement (front w) (branch h ts) →
     Claim f so.Statement h ts w st g gs
-let_reads f n ih h ts z i p w st g gs x = sort_reads f n ih so.Statement ki.Let si.Let bound_pieces h ts z i refl refl (λ h e. (e, tt))
-    (λ e. cc) p w st g gs x (λ q c. bound_clear (front w) q)
+let_reads f n ih h ts z i p w st g gs x = sort_reads f n ih so.Statement ki.Let si.Let bound_pieces h ts z i p w st g gs
+    (record { form = refl; row_is = refl; owns = λ h e. (e, tt); nothing = λ e. cc; clear = λ q c. bound_clear (front w) q }) x
 
 pub const_reads : (f n : ℕ) → ReadsTo f n → (h : Head) (ts : Nodes) → sizes_of ts ≤ n → h.kind ≡ ki.Const → Whole so.Statement h ts →
     (w : List Token) (st : List Symbol) (g : Group) (gs : List Group) → Edge so.Statement (front w) (branch h ts) →
     Claim f so.Statement h ts w st g gs
-const_reads f n ih h ts z i p w st g gs x = sort_reads f n ih so.Statement ki.Const si.Const bound_pieces h ts z i refl refl
-    (λ h e. (e, tt)) (λ e. cc) p w st g gs x (λ q c. bound_clear (front w) q)
+const_reads f n ih h ts z i p w st g gs x = sort_reads f n ih so.Statement ki.Const si.Const bound_pieces h ts z i p w st g gs
+    (record { form = refl; row_is = refl; owns = λ h e. (e, tt); nothing = λ e. cc; clear = λ q c. bound_clear (front w) q }) x
 
 pub defer_reads : (f n : ℕ) → ReadsTo f n → (h : Head) (ts : Nodes) → sizes_of ts ≤ n → h.kind ≡ ki.Defer → Whole so.Statement h ts →
     (w : List Token) (st : List Symbol) (g : Group) (gs : List Group) → Edge so.Statement (front w) (branch h ts) →
     Claim f so.Statement h ts w st g gs
-defer_reads f n ih h ts z i p w st g gs x = sort_reads f n ih so.Statement ki.Defer si.Defer (pi.Kid expr ∷ []) h ts z i refl refl
-    (λ h e. tt) (λ e. refl) p w st g gs x (λ q c. (refl, at_of expr (front w) q refl, tt))
+defer_reads f n ih h ts z i p w st g gs x =
+    sort_reads f n ih so.Statement ki.Defer si.Defer (pi.Kid expr ∷ []) h ts z i p w st g gs (record {
+      form = refl;
+      row_is = refl;
+      owns = λ h e. tt;
+      nothing = λ e. refl;
+      clear = λ q c. (refl, at_of expr (front w) q refl, tt);
+    }) x
 
 pub loop_let_reads : (f n : ℕ) → ReadsTo f n → (h : Head) (ts : Nodes) → sizes_of ts ≤ n → h.kind ≡ ki.Let → Whole so.Let h ts →
     (w : List Token) (st : List Symbol) (g : Group) (gs : List Group) → Edge so.Let (front w) (branch h ts) → Claim f so.Let h ts w st g gs
 loop_let_reads f n ih h ts z i p w st g gs x =
-    sort_reads f n ih so.Let ki.Let si.Let bound_pieces h ts z i refl refl (λ h e. (e, tt)) (λ e. cc) p w st g gs x
-    (λ q c. bound_clear (front w) q)
+    sort_reads f n ih so.Let ki.Let si.Let bound_pieces h ts z i p w st g gs
+    (record { form = refl; row_is = refl; owns = λ h e. (e, tt); nothing = λ e. cc; clear = λ q c. bound_clear (front w) q }) x
 
 pub binding_reads : (f n : ℕ) → ReadsTo f n → (h : Head) (ts : Nodes) → sizes_of ts ≤ n → h.kind ≡ ki.Binding → Whole so.Binding h ts →
     (w : List Token) (st : List Symbol) (g : Group) (gs : List Group) → Edge so.Binding (front w) (branch h ts) →
     Claim f so.Binding h ts w st g gs
 binding_reads f n ih h ts z i p w st g gs x =
-    sort_reads f n ih so.Binding ki.Binding si.Let (pi.Own ow.Name ∷ pi.Optional so.ByRef ∷ pi.Fixed si.DotDot ∷ []) h ts z i refl refl
-    (λ h e. (e, tt)) (λ e. cc) p w st g gs x (λ q c. (refl, (refl, tt, refl, refl, tt)))
+    sort_reads f n ih so.Binding ki.Binding si.Let (pi.Own ow.Name ∷ pi.Optional so.ByRef ∷ pi.Fixed si.DotDot ∷ []) h ts z i p w st g gs
+    (record {
+      form = refl;
+      row_is = refl;
+      owns = λ h e. (e, tt);
+      nothing = λ e. cc;
+      clear = λ q c. (refl, (refl, tt, refl, refl, tt));
+    }) x
 
 pub pattern_let_reads : (f n : ℕ) → ReadsTo f n → (h : Head) (ts : Nodes) → sizes_of ts ≤ n → h.kind ≡ ki.PatternLet →
     Whole so.Pattern h ts → (w : List Token) (st : List Symbol) (g : Group) (gs : List Group) → Edge so.Pattern (front w) (branch h ts) →
     Claim f so.Pattern h ts w st g gs
 pattern_let_reads f n ih h ts z i p w st g gs x =
-    sort_reads f n ih so.Pattern ki.PatternLet si.Let (pi.Own ow.Name ∷ pi.Fixed si.Colon ∷ pi.Kid so.Type ∷ []) h ts z i refl refl
-    (λ h e. (e, tt)) (λ e. cc) p w st g gs x (λ q c. (refl, (refl, at_of so.Type (front w) q refl, tt)))
+    sort_reads f n ih so.Pattern ki.PatternLet si.Let (pi.Own ow.Name ∷ pi.Fixed si.Colon ∷ pi.Kid so.Type ∷ []) h ts z i p w st g gs
+    (record {
+      form = refl;
+      row_is = refl;
+      owns = λ h e. (e, tt);
+      nothing = λ e. cc;
+      clear = λ q c. (refl, (refl, at_of so.Type (front w) q refl, tt));
+    }) x
 
 -- `case` and `}` begin no statement
 case_over : (s : Sort) (c : Class) → closed_by so.Case c ≡ true → of_row so.Statement c ≡ Fault
@@ -449,13 +494,23 @@ pub case_reads : (f n : ℕ) → ReadsTo f n → (h : Head) (ts : Nodes) → siz
     (w : List Token) (st : List Symbol) (g : Group) (gs : List Group) → Edge so.Case (front w) (branch h ts) →
     Claim f so.Case h ts w st g gs
 case_reads f n ih h ts z i p w st g gs x = sort_reads f n ih so.Case ki.Case si.Case
-    (pi.Optional so.Pattern ∷ pi.Fixed si.Arrow ∷ pi.EachFollowed so.Statement si.Semicolon ∷ []) h ts z i refl refl (λ h e. tt) (λ e. refl)
-    p w st g gs x (λ q c. (refl, tt, refl, refl, case_over so.Case (front w) c))
+    (pi.Optional so.Pattern ∷ pi.Fixed si.Arrow ∷ pi.EachFollowed so.Statement si.Semicolon ∷ []) h ts z i p w st g gs (record {
+      form = refl;
+      row_is = refl;
+      owns = λ h e. tt;
+      nothing = λ e. refl;
+      clear = λ q c. (refl, tt, refl, refl, case_over so.Case (front w) c);
+    }) x
 
 pub switch_case_reads : (f n : ℕ) → ReadsTo f n → (h : Head) (ts : Nodes) → sizes_of ts ≤ n → h.kind ≡ ki.SwitchCase →
     Whole so.SwitchCase h ts → (w : List Token) (st : List Symbol) (g : Group) (gs : List Group) →
     Edge so.SwitchCase (front w) (branch h ts) → Claim f so.SwitchCase h ts w st g gs
 switch_case_reads f n ih h ts z i p w st g gs x =
     sort_reads f n ih so.SwitchCase ki.SwitchCase si.Case
-    (pi.Optional so.Values ∷ pi.Fixed si.Arrow ∷ pi.EachFollowed so.Statement si.Semicolon ∷ []) h ts z i refl refl (λ h e. tt) (λ e. refl)
-    p w st g gs x (λ q c. (refl, tt, refl, refl, case_over so.SwitchCase (front w) c))
+    (pi.Optional so.Values ∷ pi.Fixed si.Arrow ∷ pi.EachFollowed so.Statement si.Semicolon ∷ []) h ts z i p w st g gs (record {
+      form = refl;
+      row_is = refl;
+      owns = λ h e. tt;
+      nothing = λ e. refl;
+      clear = λ q c. (refl, tt, refl, refl, case_over so.SwitchCase (front w) c);
+    }) x

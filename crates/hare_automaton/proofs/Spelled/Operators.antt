@@ -114,18 +114,31 @@ pulls_stops c t e d i =
 pub operand_level : (a : ℕ) (t : Node) → is_shaped (so.Level a) t ≡ true → a ≤ level_at t
 operand_level a (branch h ts) e = let p = whole (so.Level a) h ts e in true_le a (level h.kind h.text) p.admitted
 
+-- The left operand of an operator of the level `m`, which binds so tightly as `a`, where a tree of the sort is wanted. The induction
+-- reaches trees of the size `n`.
+pub record Operand (n : ℕ) (s : Sort) (a m : ℕ) (t : Node) : Type 0 where
+  -- the induction reaches the operand
+  pub small : size_of t ≤ n
+  -- expressions are wanted
+  pub expression : is_expr s ≡ true
+  -- among them those of the operator's level
+  pub top : tops s m ≡ true
+  -- the operand binds so tightly as the operator at least
+  pub within : m ≤ a
+  -- it is an expression of its level
+  pub shaped : is_shaped (so.Level a) t ≡ true
+
 -- an operand, and what is left behind it
-pub operand_reads : (f n : ℕ) → ReadsTo f n → (s : Sort) (a m : ℕ) (t : Node) → size_of t ≤ n → is_expr s ≡ true → tops s m ≡ true → m ≤ a →
-    is_shaped (so.Level a) t ≡ true → (w : List Token) (st : List Symbol) (g : Group) (gs : List Group) → 1 ≤ pull (front w) →
-    pull (front w) ≤ tight (level_at t) → run f (spell f t ++ w) (of s ∷ st) (g ∷ gs) ≡
-    run f w (part (ru.Climb (least s) (level_at t)) ∷ st) (add (plain f t) (g ∷ gs))
-operand_reads f n ih s a m (branch h ts) z c t l e w st g gs o q =
-    let v = operand_level a (branch h ts) e in
-    let t' : tops s (level h.kind h.text) ≡ true = tops_up s m (level h.kind h.text) t (omega (arith, l, v)) in
-    let e' = shaped_by s (so.Level a) h ts (top_admits s h.kind h.text t') e in
+pub operand_reads : (f n : ℕ) → ReadsTo f n → (s : Sort) (a m : ℕ) (t : Node) → Operand n s a m t →
+    (w : List Token) (st : List Symbol) (g : Group) (gs : List Group) → 1 ≤ pull (front w) → pull (front w) ≤ tight (level_at t) →
+    run f (spell f t ++ w) (of s ∷ st) (g ∷ gs) ≡ run f w (part (ru.Climb (least s) (level_at t)) ∷ st) (add (plain f t) (g ∷ gs))
+operand_reads f n ih s a m (branch h ts) d w st g gs o q =
+    let v = operand_level a (branch h ts) d.shaped in
+    let t' : tops s (level h.kind h.text) ≡ true = tops_up s m (level h.kind h.text) d.top (omega (arith, d.within, v)) in
+    let e' = shaped_by s (so.Level a) h ts (top_admits s h.kind h.text t') d.shaped in
     let r : pull (front w) ≤ reach s (level h.kind h.text) = rw (top_reach s (level h.kind h.text) t') q in
-    ih s (branch h ts) z (expr_covered s c) e' w st g gs
-    (record { reaches = r; stops_at = pulls_stops (front w) (branch h ts) o; closed = expr_closed s (front w) c })
+    ih s (branch h ts) d.small (expr_covered s d.expression) e' w st g gs
+    (record { reaches = r; stops_at = pulls_stops (front w) (branch h ts) o; closed = expr_closed s (front w) d.expression })
     ∙ ap (λ y. run f w (y ++ st) (add (plain f (branch h ts)) (g ∷ gs))) (left_climb s (level h.kind h.text) t')
   where
     expr_closed : (s : Sort) (c : Class) → is_expr s ≡ true → closed_by s c ≡ true
@@ -156,24 +169,41 @@ pub record Behind (f : ℕ) (x : Token) (b : Bool) (cs : List Change) (h : Head)
   pub changes : (g : Group) (gs : List Group) →
       all_changed f x cs (add (plain f t) (g ∷ gs)) ≡ state b (start_of f) h (plain f t ∷ []) ∷ g ∷ gs
 
+-- The pieces behind the operand and that token, before a token of the class. `b` tells whether the token is the text of the tree.
+pub record Remaining (n m : ℕ) (ps : List Piece) (b : Bool) (h : Head) (ts : Nodes) (c : Class) : Type 0 where
+  -- the induction reaches their kids
+  pub small : sizes_of ts ≤ n
+  -- the kids are such as the pieces take
+  pub kids : are_kids m (kid_pieces ps) ts ≡ true
+  -- each ends before the sign behind it
+  pub ends : kids_end ps (edges ts) ≡ true
+  -- the text of the tree is such as the pieces read
+  pub owns : Owns h ps
+  -- no text is read twice
+  pub once : (b && has_own ps) ≡ false
+  -- where none is read there is none
+  pub nothing : (b || has_own ps) ≡ false → is_own ow.Nothing h ≡ true
+  -- the right edge of the tree lets the class stand behind it
+  pub stops_at : (d : Sign) → c ≡ cl.Sign d → form_stops d h true ps (stops_each d ts) ≡ true
+  -- each piece sees where it ends
+  pub clear : Clear ps c
+
 pub over_reads : (f n : ℕ) → ReadsTo f n → (s : Sort) (a m m' : ℕ) (k : Kind) (x : Token) (b : Bool) (cs : List Change) (ps : List Piece)
-    (h : Head) (t : Node) (ts : Nodes) → size_of t ≤ n → sizes_of ts ≤ n → is_expr s ≡ true → h.kind ≡ k → tops s m ≡ true → m ≤ a →
-    is_shaped (so.Level a) t ≡ true → row (ru.Climb (least s) (level_at t)) (class_of x) ≡
+    (h : Head) (t : Node) (ts : Nodes) → Operand n s a m t → h.kind ≡ k → row (ru.Climb (least s) (level_at t)) (class_of x) ≡
     Uses cs ((symbols ps ++ sy.Close k ∷ []) ++ part (ru.Climb (least s) m) ∷ []) → Behind f x b cs h t →
-    are_kids m' (kid_pieces ps) ts ≡ true → kids_end ps (edges ts) ≡ true → Owns h ps → (b && has_own ps) ≡ false →
-    ((b || has_own ps) ≡ false → is_own ow.Nothing h ≡ true) → (w : List Token) (st : List Symbol) (g : Group) (gs : List Group) →
-    ((d : Sign) → front w ≡ cl.Sign d → form_stops d h true ps (stops_each d ts) ≡ true) → Clear ps (front w) →
+    (w : List Token) (st : List Symbol) (g : Group) (gs : List Group) → Remaining n m' ps b h ts (front w) →
     run f (spell f t ++ (x ∷ (pieces_tokens f h ps (spells f ts) ++ w))) (of s ∷ st) (g ∷ gs) ≡
     run f w (part (ru.Climb (least s) m) ∷ st) (add (plain f (branch h (more t ts))) (g ∷ gs))
-over_reads f n ih s a m m' k x b cs ps h t ts z zs c i l al e r q kids ends o nb own w st g gs fs cr =
+over_reads f n ih s a m m' k x b cs ps h t ts d i r q w st g gs o =
     let ls = part (ru.Climb (least s) m) ∷ [] in
     let u = pieces_tokens f h ps (spells f ts) ++ w in
-    operand_reads f n ih s a m t z c l al e (x ∷ u) st g gs q.takes q.within
+    operand_reads f n ih s a m t d (x ∷ u) st g gs q.takes q.within
     ∙ run_uses f x u (ru.Climb (least s) (level_at t)) st (add (plain f t) (g ∷ gs)) cs ((symbols ps ++ sy.Close k ∷ []) ++ ls) r
     ∙ run_groups f u (((symbols ps ++ sy.Close k ∷ []) ++ ls) ++ st) _ _ (q.changes g gs)
     ∙ ap (λ y. run f u y (state b (start_of f) h (plain f t ∷ []) ∷ g ∷ gs)) (stack (symbols ps) ls st k)
-    ∙ read_pieces f n ih h m' ps b ts zs kids ends o nb w (sy.Close k ∷ (ls ++ st)) (start_of f) (plain f t ∷ []) (g ∷ gs) (λ y. true) fs cr
-    ∙ closed f h k (b || has_own ps) (more t ts) i own w (ls ++ st) g gs
+    ∙ read_pieces f n ih h m' ps b ts o.small o.kids o.ends o.owns o.once w (sy.Close k ∷ (ls ++ st)) (start_of f) (plain f t ∷ []) (g ∷ gs)
+    (λ y. true) o.stops_at o.clear
+    ∙ closed f h k (b || has_own ps) (more t ts) i o.nothing w (ls ++ st) g gs
 
 -- ---- forms whose second piece is a sign
 
@@ -227,9 +257,17 @@ behind_reads f n ih s k d ps r a m h (more t ts) z c i o l p w st g gs x =
     } in
     let u = pieces_tokens f h ps (spells f ts) in
     rw (q, lv, left_climb s m l, append-nil (spell f t), append_assoc (spell f t) (sign_token f d ∷ u) w)
-    (over_reads f n ih s a m m k (sign_token f d) false (ch.Over ∷ []) ps h t ts (omega arith) (omega arith) c i l o.within e rr bh kd.1
-    en.1 (o.owns h own) refl (λ y. subst (λ v. is_own v h ≡ true) (o.nothing y) own) w st g gs fs
-    (o.clear (front w) (edge_pull s (front w) h (more t ts) m lv l x)))
+    (over_reads f n ih s a m m k (sign_token f d) false (ch.Over ∷ []) ps h t ts
+    (record { small = omega arith; expression = c; top = l; within = o.within; shaped = e }) i rr bh w st g gs (record {
+      small = omega arith;
+      kids = kd.1;
+      ends = en.1;
+      owns = o.owns h own;
+      once = refl;
+      nothing = λ y. subst (λ v. is_own v h ≡ true) (o.nothing y) own;
+      stops_at = fs;
+      clear = o.clear (front w) (edge_pull s (front w) h (more t ts) m lv l x);
+    }))
 
 -- how tightly operands take
 pub tight_low : (m j : ℕ) → m ≤ 13 → m ≤ j → 2 ≤ j → m ≤ tight j
@@ -529,8 +567,17 @@ binary_reads f n ih s k h (more t ts) z c i o l p w st g gs x =
     let cr : Clear ps (front w) = (le_true 1 (m + 1) (omega arith), at_of (so.Level (m + 1)) (front w) (omega (arith, pl')) refl, tt) in
     let u = pieces_tokens f h ps (spells f ts) in
     rw (q, lv, left_climb s m l, append-nil (spell f t), append_assoc (spell f t) (word_token f tk.Mark h.text ∷ u) w)
-    (over_reads f n ih s m m m k (word_token f tk.Mark h.text) true (ch.Over ∷ ch.Take ∷ []) ps h t ts (omega arith) (omega arith) c i l
-    (le_refl m) kd.0 rr bh (right_kids m ts kd.1) (end_right ts ends) tt refl (λ y. cc) w st g gs fs cr)
+    (over_reads f n ih s m m m k (word_token f tk.Mark h.text) true (ch.Over ∷ ch.Take ∷ []) ps h t ts
+    (record { small = omega arith; expression = c; top = l; within = le_refl m; shaped = kd.0 }) i rr bh w st g gs (record {
+      small = omega arith;
+      kids = right_kids m ts kd.1;
+      ends = end_right ts ends;
+      owns = tt;
+      once = refl;
+      nothing = λ y. cc;
+      stops_at = fs;
+      clear = cr;
+    }))
   where
     end_right : (ts : Nodes) → kids_end binary (edges (more t ts)) ≡ true →
         kids_end (pi.Kid (so.Level (operator_level h.text + 1)) ∷ []) (edges ts) ≡ true
@@ -579,7 +626,16 @@ op_assign_reads f n ih s h (more t ts) z c i l p w st g gs x =
     let u = pieces_tokens f h ps (spells f ts) in
     rw (q, lv, left_climb s 1 l, append-nil (spell f t), append_assoc (spell f t) (word_token f tk.Mark h.text ∷ u) w)
     (over_reads f n ih s 14 1 (level h.kind h.text) ki.OpAssign (word_token f tk.Mark h.text) true (ch.Over ∷ ch.Take ∷ []) ps h t ts
-    (omega arith) (omega arith) c i l (omega arith) kd.0 rr bh kd.1 (end_right ts ends) tt refl (λ y. cc) w st g gs fs cr)
+    (record { small = omega arith; expression = c; top = l; within = omega arith; shaped = kd.0 }) i rr bh w st g gs (record {
+      small = omega arith;
+      kids = kd.1;
+      ends = end_right ts ends;
+      owns = tt;
+      once = refl;
+      nothing = λ y. cc;
+      stops_at = fs;
+      clear = cr;
+    }))
   where
     end_right : (ts : Nodes) → kids_end (form_of ki.OpAssign) (edges (more t ts)) ≡ true → kids_end (pi.Kid expr ∷ []) (edges ts) ≡ true
     end_right none e = refl
