@@ -15,7 +15,7 @@ use Rattle.hare_tree.specs.declared.form.Lead.TheVariants as le
 use Rattle.hare_tree.specs.declared.form.Piece.{Piece}
 use Rattle.hare_tree.specs.declared.form.Piece.TheVariants as pi
 use Rattle.hare_tree.specs.Node.{Node, Nodes, branch, none, more}
-use Rattle.hare_tree.specs.Forms.{form_of, expr}
+use Rattle.hare_tree.specs.Forms.{expr}
 use Rattle.hare_tree.specs.Levels.{is_name, admits}
 use Rattle.hare_tree.specs.Spell.{sign_token, all_led, spell, spells}
 use Rattle.hare_tree.specs.Shape.{is_shaped, are_kids, is_none, stops}
@@ -30,14 +30,13 @@ use Rattle.hare_automaton.specs.Classes.{class_of}
 use Rattle.hare_automaton.specs.Rows.{symbols, rest_of}
 use Rattle.hare_automaton.specs.DeclarationRows.{use_row, use_start_row, after_use_part_row, after_use_name_row, after_use_mark_row, import_path_row, decl_word_row, decl_row, name_row, further_name_row}
 use Rattle.hare_automaton.specs.Engine.{Group, begun, with_kids, head_in, bare_leaf, full_leaf, add, close, lift}
-use Rattle.hare_automaton.proofs.Spelled.Forms.{has_own}
 use Rattle.hare_prefixes.proofs.Soundness.Seen.{Plain, sign_is, name_is, path_word_is}
 use Rattle.hare_prefixes.proofs.Soundness.Trees.{Source, IsTree, Tree, Begun, Bare, Ended, list_of}
 use Rattle.hare_prefixes.proofs.Soundness.Means.{with_kid, closed_as, imported, longer, ImportEnd, whole, braces, Import, aliased, AfterName, import, alias, Means}
 use Rattle.hare_prefixes.proofs.Soundness.Stacks.{Reads, last_part, Goes, Used, used_led, used_place}
-use Rattle.hare_prefixes.proofs.Soundness.Kids.{Simple, nothing, wanted_kid, absent_kid, present_kid}
+use Rattle.hare_prefixes.proofs.Soundness.Kids.{nothing, wanted_kid, absent_kid, present_kid}
 use Rattle.hare_prefixes.proofs.Soundness.Pieces.{whole_form, ended_end, ended_fixed, ended_kid}
-use Rattle.hare_prefixes.proofs.Soundness.Forms.{Ordinary, Form, form_tree, form_kid, ended_form, leaf_form, mark_form}
+use Rattle.hare_prefixes.proofs.Soundness.Forms.{PlainRest, Form, form_tree, form_kid, ended_form, leaf_form, mark_form}
 use Rattle.hare_prefixes.proofs.Soundness.Paths.{name_behind}
 use Rattle.hare_prefixes.proofs.RightRows.TypeRows.{RowMeans}
 
@@ -322,17 +321,17 @@ value_pieces = pi.Kid so.Name ∷ pi.Led si.Colon so.Type ∷ pi.Fixed si.Equals
 
 -- the word of a declaration behind what stands for its `export`
 word_form : (x : Source) (k : Kind) (d : Sign) (ps : List Piece) (e : Node) (p : Place) (t1 : Token) (hs : List Group) (n m m1 : ℕ)
-    (v u w : List Token) (gs' : List Group) → form_of k ≡ pi.Optional so.Export ∷ pi.Fixed d ∷ ps → Ordinary k → Simple ps →
-    has_own ps ≡ false → ((y : List ℕ) → admits so.Decl k y ≡ true) → place_of x.tokens n ≡ p → Begun x d t1 m m1 →
+    (v u w : List Token) (gs' : List Group) → PlainRest k (pi.Optional so.Export ∷ pi.Fixed d ∷ ps) ps →
+    ((y : List ℕ) → admits so.Decl k y ≡ true) → place_of x.tokens n ≡ p → Begun x d t1 m m1 →
     (Ended x k (pi.Fixed d ∷ ps) (with_kid (begun p []) e) hs m (t1 ∷ u) w gs' →
     Ended x k (pi.Optional so.Export ∷ pi.Fixed d ∷ ps) (begun p []) hs n (v ++ (t1 ∷ u)) w gs') →
     Reads x (symbols ps ++ sy.Close k ∷ []) (begun p (e ∷ []) ∷ hs) m1 u w gs' → Tree x so.Decl hs n (v ++ (t1 ∷ u)) w gs'
-word_form x k d ps e p t1 hs n m m1 v u w gs' f y c l a at b kid r =
-    let d0 = whole_form x k ps (begun p (e ∷ [])) hs m1 u w gs' c (λ z. let q : true ≡ false = sym z ∙ l in cc) r in
+word_form x k d ps e p t1 hs n m m1 v u w gs' f a at b kid r =
+    let d0 = whole_form x k ps (begun p (e ∷ [])) hs m1 u w gs' f.simple (λ z. let q : true ≡ false = sym z ∙ f.textless in cc) r in
     let d1 = ended_fixed x k d ps (begun p (e ∷ [])) hs m m1 t1 u w gs' b d0 in
-    form_tree x so.Decl k hs n (v ++ (t1 ∷ u)) w gs' y.none a
-    (ended_form x k (begun p []) hs n (v ++ (t1 ∷ u)) w gs' y (bare p) refl at
-    (subst (λ z. Ended x k z (begun p []) hs n (v ++ (t1 ∷ u)) w gs') (sym f) (kid d1)))
+    form_tree x so.Decl k hs n (v ++ (t1 ∷ u)) w gs' f.ordinary.none a
+    (ended_form x k (begun p []) hs n (v ++ (t1 ∷ u)) w gs' f.ordinary (bare p) refl at
+    (subst (λ z. Ended x k z (begun p []) hs n (v ++ (t1 ∷ u)) w gs') (sym f.form) (kid d1)))
 
 -- what a word makes, whatever stands for the `export`
 abbrev Words : Source → Node → Place → List Group → ℕ → ℕ → List Token → Type 0
@@ -347,29 +346,49 @@ Exports x e p hs n m v = (k : Kind) (ps : List Piece) (u w : List Token) (gs' : 
 words : (x : Source) (e : Node) (p : Place) (hs : List Group) (n m : ℕ) (v : List Token) → place_of x.tokens n ≡ p →
     Exports x e p hs n m v → Words x e p hs n m v
 words x e p hs n m v at f (cl.Sign si.Def) t1 gs u w gs' i c h =
-    word_form x ki.Def si.Def value_pieces e p t1 hs n m h.n v u w gs' refl (record { none = refl; operator = refl; yield = refl })
-    (refl, (refl, refl, (refl, tt))) refl (λ y. refl) at (record { class = c; place = h.place; next = h.at })
+    word_form x ki.Def si.Def value_pieces e p t1 hs n m h.n v u w gs' (record {
+      form = refl;
+      ordinary = record { none = refl; operator = refl; yield = refl };
+      simple = (refl, (refl, refl, (refl, tt)));
+      textless = refl;
+    }) (λ y. refl) at (record { class = c; place = h.place; next = h.at })
     (λ d. f ki.Def (pi.Fixed si.Def ∷ value_pieces) (t1 ∷ u) w gs' d) (subst (λ y. Reads x (rest_of 2 ki.Def) y h.n u w gs') i h.reads)
 words x e p hs n m v at f (cl.Sign si.Let) t1 gs u w gs' i c h =
-    word_form x ki.GlobalLet si.Let value_pieces e p t1 hs n m h.n v u w gs' refl (record { none = refl; operator = refl; yield = refl })
-    (refl, (refl, refl, (refl, tt))) refl (λ y. refl) at (record { class = c; place = h.place; next = h.at })
+    word_form x ki.GlobalLet si.Let value_pieces e p t1 hs n m h.n v u w gs' (record {
+      form = refl;
+      ordinary = record { none = refl; operator = refl; yield = refl };
+      simple = (refl, (refl, refl, (refl, tt)));
+      textless = refl;
+    }) (λ y. refl) at (record { class = c; place = h.place; next = h.at })
     (λ d. f ki.GlobalLet (pi.Fixed si.Let ∷ value_pieces) (t1 ∷ u) w gs' d)
     (subst (λ y. Reads x (rest_of 2 ki.GlobalLet) y h.n u w gs') i h.reads)
 words x e p hs n m v at f (cl.Sign si.Const) t1 gs u w gs' i c h =
-    word_form x ki.GlobalConst si.Const value_pieces e p t1 hs n m h.n v u w gs' refl
-    (record { none = refl; operator = refl; yield = refl }) (refl, (refl, refl, (refl, tt))) refl (λ y. refl) at
-    (record { class = c; place = h.place; next = h.at }) (λ d. f ki.GlobalConst (pi.Fixed si.Const ∷ value_pieces) (t1 ∷ u) w gs' d)
+    word_form x ki.GlobalConst si.Const value_pieces e p t1 hs n m h.n v u w gs' (record {
+      form = refl;
+      ordinary = record { none = refl; operator = refl; yield = refl };
+      simple = (refl, (refl, refl, (refl, tt)));
+      textless = refl;
+    }) (λ y. refl) at (record { class = c; place = h.place; next = h.at })
+    (λ d. f ki.GlobalConst (pi.Fixed si.Const ∷ value_pieces) (t1 ∷ u) w gs' d)
     (subst (λ y. Reads x (rest_of 2 ki.GlobalConst) y h.n u w gs') i h.reads)
 words x e p hs n m v at f (cl.Sign si.Type) t1 gs u w gs' i c h =
     let ps : List Piece = pi.Kid so.Name ∷ pi.Fixed si.Equals ∷ pi.Kid so.Type ∷ pi.Fixed si.Semicolon ∷ [] in
-    word_form x ki.TypeDecl si.Type ps e p t1 hs n m h.n v u w gs' refl (record { none = refl; operator = refl; yield = refl })
-    (refl, (refl, tt)) refl (λ y. refl) at (record { class = c; place = h.place; next = h.at })
+    word_form x ki.TypeDecl si.Type ps e p t1 hs n m h.n v u w gs' (record {
+      form = refl;
+      ordinary = record { none = refl; operator = refl; yield = refl };
+      simple = (refl, (refl, tt));
+      textless = refl;
+    }) (λ y. refl) at (record { class = c; place = h.place; next = h.at })
     (λ d. f ki.TypeDecl (pi.Fixed si.Type ∷ ps) (t1 ∷ u) w gs' d) (subst (λ y. Reads x (rest_of 2 ki.TypeDecl) y h.n u w gs') i h.reads)
 words x e p hs n m v at f (cl.Sign si.Fn) t1 gs u w gs' i c h =
     let ps : List Piece = pi.Kid so.Name ∷ pi.Kid so.Params ∷ pi.Kid so.Type ∷ pi.Fixed si.Equals ∷ pi.Kid expr ∷ pi.Fixed si.Semicolon ∷
     [] in
-    word_form x ki.Fn si.Fn ps e p t1 hs n m h.n v u w gs' refl (record { none = refl; operator = refl; yield = refl })
-    (refl, (refl, (refl, (refl, tt)))) refl (λ y. refl) at (record { class = c; place = h.place; next = h.at })
+    word_form x ki.Fn si.Fn ps e p t1 hs n m h.n v u w gs' (record {
+      form = refl;
+      ordinary = record { none = refl; operator = refl; yield = refl };
+      simple = (refl, (refl, (refl, (refl, tt))));
+      textless = refl;
+    }) (λ y. refl) at (record { class = c; place = h.place; next = h.at })
     (λ d. f ki.Fn (pi.Fixed si.Fn ∷ ps) (t1 ∷ u) w gs' d) (subst (λ y. Reads x (rest_of 2 ki.Fn) y h.n u w gs') i h.reads)
 words x e p hs n m v at f (cl.Sign _) t1 gs u w gs' i c h = absurd h
 words x e p hs n m v at f _ t1 gs u w gs' i c h = absurd h

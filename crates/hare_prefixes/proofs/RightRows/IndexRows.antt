@@ -32,11 +32,12 @@ after_value_means x (cl.Sign si.RightParen) t1 gs m u w gs' e h t n n' hs a v i 
     let h' : Goes x (sy.Close ki.Paren ∷ []) gs t1 m u w gs' = record { n = h.n; place = h.place; at = h.at; reads = h.reads } in
     form_tree x (so.Level 16) ki.Paren hs n (t ∷ (v ++ (t1 ∷ u))) w gs' refl (λ y. refl)
     (inside_form x ki.Paren si.LeftParen expr si.RightParen [] hs t t1 n n' m a v u w gs gs' refl
-    (record { none = refl; operator = refl; yield = refl }) (refl, tt) i b q at e h')
+    (record { none = refl; operator = refl; yield = refl }) (refl, tt) i (record { begun = b; is = q; at = at; class = e }) h')
 after_value_means x (cl.Sign si.Comma) t1 gs m u w gs' e h t n n' hs a v i b q at =
     form_tree x (so.Level 16) ki.Tuple hs n (t ∷ (v ++ (t1 ∷ u))) w gs' refl (λ y. refl)
     (inside_form x ki.Tuple si.LeftParen expr si.Comma (pi.Kid expr ∷ pi.More expr ∷ pi.Fixed si.RightParen ∷ []) hs t t1 n n' m a v u w
-    gs gs' refl (record { none = refl; operator = refl; yield = refl }) (refl, (refl, (refl, tt))) i b q at e h)
+    gs gs' refl (record { none = refl; operator = refl; yield = refl }) (refl, (refl, (refl, tt))) i
+    (record { begun = b; is = q; at = at; class = e }) h)
 after_value_means x (cl.Sign _) t1 gs m u w gs' e h t n n' hs a v i b q at = absurd h
 after_value_means x _ t1 gs m u w gs' e h t n n' hs a v i b q at = absurd h
 
@@ -51,8 +52,9 @@ slice_tree : (x : Source) (hs : List Group) (a : Node) (t : Token) (n n1 m : ℕ
     Tree x postfix hs n (v ++ (t ∷ u)) w gs'
 slice_tree x hs a t n n1 m v u w gs' q at b r =
     form_tree x postfix ki.Slice hs n (v ++ (t ∷ u)) w gs' refl (λ y. refl)
-    (behind_operand x ki.Slice postfix postfix si.LeftBracket slice_pieces hs a t n n1 m v u w gs' refl (λ y. refl) refl refl
-    (refl, (refl, tt)) (record { is = q; at = at }) b r)
+    (behind_operand x ki.Slice postfix postfix si.LeftBracket slice_pieces hs a t n n1 m v u w gs'
+    (record { form = refl; operand = λ y. refl; operator = refl; yield = refl; simple = (refl, (refl, tt)) })
+    (record { is = q; at = at }) b r)
 
 pub in_index_means : (x : Source) (c : Class) (t1 : Token) (gs : List Group) (m : ℕ) (u w : List Token) (gs' : List Group) →
     class_of t1 ≡ c → Used x (in_index_row c) t1 gs m u w gs' → Means x ru.InIndex gs m (t1 ∷ u) w gs'
@@ -87,7 +89,7 @@ after_index_means x (cl.Sign si.RightBracket) t1 gs m u w gs' e h a hs n n1 n2 v
     (wants x si.RightBracket (sy.Close ki.Index ∷ []) t1 gs m u w gs' e h') in
     form_tree x postfix ki.Index hs n (v ++ (t ∷ (v' ++ (t1 ∷ u)))) w gs' refl (λ y. refl)
     (behind_operand x ki.Index postfix postfix si.LeftBracket (pi.Kid expr ∷ pi.Fixed si.RightBracket ∷ []) hs a t n n1 n2 v
-    (v' ++ (t1 ∷ u)) w gs' refl (λ y. refl) refl refl (refl, tt)
+    (v' ++ (t1 ∷ u)) w gs' (record { form = refl; operand = λ y. refl; operator = refl; yield = refl; simple = (refl, tt) })
     (record { is = subst (λ l. IsTree x postfix n v (t ∷ l) a) (sym (append_assoc v' (t1 ∷ u) w)) q; at = at }) k
     (record {
       v = v';

@@ -33,7 +33,7 @@ use Rattle.hare_prefixes.proofs.Soundness.Means.{has_first, Names, with_kid, clo
 use Rattle.hare_prefixes.proofs.Soundness.Stacks.{Reads, last_part, Goes, Used, used_before}
 use Rattle.hare_prefixes.proofs.Soundness.Kids.{Simple, wanted_kid}
 use Rattle.hare_prefixes.proofs.Soundness.Pieces.{ended_fixed, ended_kid}
-use Rattle.hare_prefixes.proofs.Soundness.Forms.{Ordinary, Form, form_tree, form_kid, ended_form, named}
+use Rattle.hare_prefixes.proofs.Soundness.Forms.{Ordinary, Form, form_tree, form_kid, ended_form, PlainRest, named}
 use Rattle.hare_prefixes.proofs.Soundness.Paths.{first_of, path_form}
 use Rattle.hare_prefixes.proofs.RightRows.TypeRows.{leaf_means, mark_means, opens_means, wants, RowMeans}
 
@@ -85,13 +85,21 @@ path_start x t gs m n u w gs' p e at (path q i) =
 abbrev block_pieces : List Piece
 block_pieces = pi.Fixed si.LeftBrace ∷ pi.EachFollowed so.Statement si.Semicolon ∷ pi.Fixed si.RightBrace ∷ []
 
+block_rest : PlainRest ki.Block (pi.Own ow.Label ∷ block_pieces) block_pieces
+block_rest = record {
+  form = refl;
+  ordinary = record { none = refl; operator = refl; yield = refl };
+  simple = (refl, tt);
+  textless = refl;
+}
+
 block_start : (x : Source) (t : Token) (gs : List Group) (m : ℕ) (u w : List Token) (gs' : List Group) → class_of t ≡ cl.Sign si.LeftBrace →
     Goes x (rest_of 2 ki.Block) (begun t.place [] ∷ gs) t m u w gs' → Tree x (so.Level 16) gs m (t ∷ u) w gs'
 block_start x t gs m u w gs' e h =
     let r = wants x si.LeftBrace (rest_of 2 ki.Block) t (begun t.place [] ∷ gs) m u w gs' e h in
     expression x ki.Block 16 gs m (t ∷ u) w gs' refl (λ y. refl)
-    (named x ki.Block ow.Label block_pieces (begun t.place []) gs m m [] (t ∷ u) w gs' refl
-    (record { none = refl; operator = refl; yield = refl }) (refl, tt) refl refl refl refl h.place (omega arith) r)
+    (named x ki.Block ow.Label block_pieces (begun t.place []) gs m m [] (t ∷ u) w gs' block_rest
+    (record { kids = refl; own = refl; spelled = refl; place = h.place; next = omega arith }) r)
 
 -- `:` and a name are a label
 pub labelled : (k : Kind) (t : Token) (g g' : Group) (v : List Token) → class_of t ≡ cl.Sign si.Colon → Owned ow.Name g v g' →
@@ -121,9 +129,13 @@ label_start x t gs m u w gs' e h =
     let q = r.part g gs refl (record { text = refl; number = refl; suffix = refl }) in
     let l = labelled ki.Block t g q.0 r.v e q.2 in
     let rest = subst (λ y. Reads x (rest_of 1 ki.Block) y r.n r.v' w gs') q.1 r.rest in
-    let f = named x ki.Block ow.Label block_pieces q.0 gs m r.n (t ∷ r.v) r.v' w gs' refl
-    (record { none = refl; operator = refl; yield = refl }) (refl, tt) refl q.2.kids l.0 l.1 (h.place ∙ sym q.2.place)
-    (omega (arith, r.at, h.at)) rest in
+    let f = named x ki.Block ow.Label block_pieces q.0 gs m r.n (t ∷ r.v) r.v' w gs' block_rest (record {
+      kids = q.2.kids;
+      own = l.0;
+      spelled = l.1;
+      place = h.place ∙ sym q.2.place;
+      next = omega (arith, r.at, h.at);
+    }) rest in
     expression x ki.Block 16 gs m (t ∷ u) w gs' refl (λ y. refl) (subst (λ y. Form x ki.Block gs m (t ∷ y) w gs') (sym r.is) f)
 
 -- ---- loops

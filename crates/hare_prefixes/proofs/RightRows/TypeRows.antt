@@ -77,8 +77,14 @@ pub names_means : (x : Source) (k : Kind) (ps : List Piece) (t : Token) (gs : Li
     Goes x (symbols ps ++ sy.Close k ∷ []) (first_of t ∷ gs) t m u w gs' → Form x k gs m (t ∷ u) w gs'
 names_means x k ps t gs m u w gs' f y c o e h =
     let n = name_is t e in
-    named x k ow.Name ps (first_of t) gs m h.n (t ∷ []) u w gs' f y c o refl (rw (n.name, n.plain.alone) refl)
-    (ap (λ z. z ∷ []) (sym n.plain.is)) h.place h.at h.reads
+    named x k ow.Name ps (first_of t) gs m h.n (t ∷ []) u w gs' (record { form = f; ordinary = y; simple = c; textless = o })
+    (record {
+      kids = refl;
+      own = rw (n.name, n.plain.alone) refl;
+      spelled = ap (λ z. z ∷ []) (sym n.plain.is);
+      place = h.place;
+      next = h.at;
+    }) h.reads
 
 -- a path by itself
 pub path_means : (x : Source) (k : Kind) (t : Token) (gs : List Group) (m : ℕ) (u w : List Token) (gs' : List Group) →
@@ -252,26 +258,38 @@ bracket_means x c t1 gs m u w gs' e h t n hs i b =
     (opened x ki.TypeArray si.LeftBracket (pi.Kid so.Length ∷ pi.Fixed si.RightBracket ∷ pi.Kid so.Type ∷ []) hs t n m (t1 ∷ u) w gs'
     refl (record { none = refl; operator = refl; yield = refl }) (refl, (refl, tt)) b r)
 
+-- The tree `a` of the tokens `v` between the token `t` with one sign, at `n`, and the token `t1` with another, at `m`, in front of the
+-- tokens `w`.
+pub record Between (x : Source) (d0 : Sign) (s : Sort) (d : Sign) (t t1 : Token) (n n1 m : ℕ) (a : Node) (v w : List Token) : Type 0 where
+  -- the first sign
+  pub begun : Begun x d0 t n n1
+  -- the tree behind it
+  pub is : IsTree x s n1 v (t1 ∷ w) a
+  -- where the tree ends
+  pub at : m ≡ n1 + length v
+  -- the sign there
+  pub class : class_of t1 ≡ cl.Sign d
+
 -- a form that begins with a sign, a tree and another sign
 pub inside_form : (x : Source) (k : Kind) (d0 : Sign) (s : Sort) (d : Sign) (ps : List Piece) (hs : List Group) (t t1 : Token) (n n1 m : ℕ)
     (a : Node) (v u w : List Token) (gs gs' : List Group) → form_of k ≡ pi.Fixed d0 ∷ pi.Kid s ∷ pi.Fixed d ∷ ps → Ordinary k →
-    Simple (pi.Kid s ∷ ps) → gs ≡ begun t.place (a ∷ []) ∷ hs → Begun x d0 t n n1 → IsTree x s n1 v (t1 ∷ (u ++ w)) a → m ≡ n1 + length v →
-    class_of t1 ≡ cl.Sign d → Goes x (symbols ps ++ sy.Close k ∷ []) gs t1 m u w gs' → Form x k hs n (t ∷ (v ++ (t1 ∷ u))) w gs'
-inside_form x k d0 s d ps hs t t1 n n1 m a v u w gs gs' f y c i b q at e h =
+    Simple (pi.Kid s ∷ ps) → gs ≡ begun t.place (a ∷ []) ∷ hs → Between x d0 s d t t1 n n1 m a v (u ++ w) →
+    Goes x (symbols ps ++ sy.Close k ∷ []) gs t1 m u w gs' → Form x k hs n (t ∷ (v ++ (t1 ∷ u))) w gs'
+inside_form x k d0 s d ps hs t t1 n n1 m a v u w gs gs' f y c i b h =
     let h' : Goes x (symbols ps ++ sy.Close k ∷ []) (begun t.place (a ∷ []) ∷ hs) t1 m u w gs' =
     subst (λ z. Goes x (symbols ps ++ sy.Close k ∷ []) z t1 m u w gs') i h in
-    opened x k d0 (pi.Kid s ∷ pi.Fixed d ∷ ps) hs t n n1 (v ++ (t1 ∷ u)) w gs' f y (c.0, c.1) b
+    opened x k d0 (pi.Kid s ∷ pi.Fixed d ∷ ps) hs t n n1 (v ++ (t1 ∷ u)) w gs' f y (c.0, c.1) b.begun
     (record {
       v = v;
       v' = t1 ∷ u;
       n = m;
       hs = begun t.place (a ∷ []) ∷ hs;
       is = refl;
-      at = at;
+      at = b.at;
       part = λ o.
-          record { t = a; is = q; adds = refl };
+          record { t = a; is = b.is; adds = refl };
       rest =
-          wants x d (symbols ps ++ sy.Close k ∷ []) t1 (begun t.place (a ∷ []) ∷ hs) m u w gs' e h';
+          wants x d (symbols ps ++ sy.Close k ∷ []) t1 (begun t.place (a ∷ []) ∷ hs) m u w gs' b.class h';
     })
 
 pub spread_means : (x : Source) (c : Class) (t1 : Token) (gs : List Group) (m : ℕ) (u w : List Token) (gs' : List Group) → class_of t1 ≡ c →
@@ -280,7 +298,8 @@ spread_means x (cl.Sign si.Bar) t1 gs m u w gs' e h t n n' hs a v i b q at =
     bare_form x ki.TypeUnion hs n (t ∷ (v ++ (t1 ∷ u))) w gs' refl (λ y. refl)
     (inside_form x ki.TypeUnion si.LeftParen so.Member si.Bar
     (pi.Kid so.Member ∷ pi.EachLed si.Bar so.Member ∷ pi.Fixed si.RightParen ∷ []) hs t t1 n n' m a v u w gs gs' refl
-    (record { none = refl; operator = refl; yield = refl }) (refl, (refl, (refl, tt))) i b q at e h)
+    (record { none = refl; operator = refl; yield = refl }) (refl, (refl, (refl, tt))) i
+    (record { begun = b; is = q; at = at; class = e }) h)
 spread_means x (cl.Sign _) t1 gs m u w gs' e h t n n' hs a v i b q at = absurd h
 spread_means x _ t1 gs m u w gs' e h t n n' hs a v i b q at = absurd h
 
@@ -289,7 +308,8 @@ pub after_means : (x : Source) (c : Class) (t1 : Token) (gs : List Group) (m : �
 after_means x (cl.Sign si.Comma) t1 gs m u w gs' e h t n n' hs a v i b q at =
     bare_form x ki.TypeTuple hs n (t ∷ (v ++ (t1 ∷ u))) w gs' refl (λ y. refl)
     (inside_form x ki.TypeTuple si.LeftParen so.Type si.Comma (pi.Kid so.Type ∷ pi.More so.Type ∷ pi.Fixed si.RightParen ∷ []) hs t t1 n
-    n' m a v u w gs gs' refl (record { none = refl; operator = refl; yield = refl }) (refl, (refl, (refl, tt))) i b q at e h)
+    n' m a v u w gs gs' refl (record { none = refl; operator = refl; yield = refl }) (refl, (refl, (refl, tt))) i
+    (record { begun = b; is = q; at = at; class = e }) h)
 after_means x c t1 gs m u w gs' e h t n n' hs a v i b q at =
     spread_means x c t1 gs m u w gs' e h t n n' hs a v i b (as_sort x so.Type so.Member n' v ((t1 ∷ u) ++ w) a type_member q) at
 

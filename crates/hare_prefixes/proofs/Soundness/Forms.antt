@@ -126,36 +126,59 @@ opened x k d ps hs t n m u w gs' f y c b r =
     let e = ended_fixed x k d ps g hs n m t u w gs' b (whole_form x k ps g hs m u w gs' c (λ z. bare) r) in
     ended_form x k g hs n (t ∷ u) w gs' y bare refl b.place (subst (λ z. Ended x k z g hs n (t ∷ u) w gs') (sym f) e)
 
+-- A form of an ordinary kind: all its pieces, and the last of them, which say nothing of the text of the tree.
+pub record PlainRest (k : Kind) (all ps : List Piece) : Type 0 where
+  -- these are the pieces of the kind
+  pub form : form_of k ≡ all
+  -- neither its place nor its label is to be told apart
+  pub ordinary : Ordinary k
+  -- the last pieces are read one by one
+  pub simple : Simple ps
+  -- none of them is the text
+  pub textless : has_own ps ≡ false
+
+-- The group has the text of a tree of the kind, and nothing else. The tokens of the text stand at `n`, in front of `m`.
+pub record HasText (x : Source) (k : Kind) (o : Own) (g : Group) (v : List Token) (n m : ℕ) : Type 0 where
+  -- there are no kids yet
+  pub kids : g.kids ≡ []
+  -- the text is such as the kind takes
+  pub own : is_own o (head_in k g) ≡ true
+  -- it is spelled by the tokens
+  pub spelled : own_tokens 0 (head_in k g) o ≡ map unplaced v
+  -- the group begins where they begin
+  pub place : place_of x.tokens n ≡ g.place
+  -- behind them stands what follows
+  pub next : m ≡ n + length v
+
 -- a form that begins with its own text, which the group has
 pub named : (x : Source) (k : Kind) (o : Own) (ps : List Piece) (g : Group) (hs : List Group) (n m : ℕ) (v u w : List Token)
-    (gs' : List Group) → form_of k ≡ pi.Own o ∷ ps → Ordinary k → Simple ps → has_own ps ≡ false → g.kids ≡ [] →
-    is_own o (head_in k g) ≡ true → own_tokens 0 (head_in k g) o ≡ map unplaced v → place_of x.tokens n ≡ g.place → m ≡ n + length v →
+    (gs' : List Group) → PlainRest k (pi.Own o ∷ ps) ps → HasText x k o g v n m →
     Reads x (symbols ps ++ sy.Close k ∷ []) (g ∷ hs) m u w gs' → Form x k hs n (v ++ u) w gs'
-named x k o ps g hs n m v u w gs' f y c l ks own text place at r =
-    let e = whole_form x k ps g hs m u w gs' c (λ z. let q : true ≡ false = sym z ∙ l in cc) r in
-    let is_h : e.h ≡ head_in k g = e.kept l in
-    let at' : place_of x.tokens n ≡ place_of x.tokens (n + place_in e.h e.ts) =
-    ap (place_of x.tokens) (omega (arith, place_zero e.h e.ts k e.kind_is y.operator)) in
-    let text' : own_tokens 0 e.h o ≡ map unplaced v = ap (λ z. own_tokens 0 z o) is_h ∙ text in
-    let ln : m ≡ n + length (own_tokens 0 e.h o) = at ∙ ap (λ z. n + z) (sym (ap length text' ∙ length-map v unplaced)) in
+named x k o ps g hs n m v u w gs' f b r =
+    let e = whole_form x k ps g hs m u w gs' f.simple (λ z. let q : true ≡ false = sym z ∙ f.textless in cc) r in
+    let is_h : e.h ≡ head_in k g = e.kept f.textless in
+    let at : place_of x.tokens n ≡ place_of x.tokens (n + place_in e.h e.ts) =
+    ap (place_of x.tokens) (omega (arith, place_zero e.h e.ts k e.kind_is f.ordinary.operator)) in
+    let text : own_tokens 0 e.h o ≡ map unplaced v = ap (λ z. own_tokens 0 z o) is_h ∙ b.spelled in
+    let ln : m ≡ n + length (own_tokens 0 e.h o) = b.next ∙ ap (λ z. n + z) (sym (ap length text ∙ length-map v unplaced)) in
     record {
       h = e.h;
       ts = e.ts;
       made = record {
         kind_is = e.kind_is;
-        place_is = e.place_is ∙ sym place ∙ at';
-        own = subst (λ z. is_own (own_of z) e.h ≡ true) (sym f) (subst (λ z. is_own o z ≡ true) (sym is_h) own);
-        kids = subst (λ z. are_kids (level k e.h.text) (kid_pieces z) e.ts ≡ true) (sym f) (e.kids (level k e.h.text));
-        ends = subst (λ z. kids_end z (edges e.ts) ≡ true) (sym f) e.ends;
-        label = no_label e.h e.ts k e.kind_is y.yield;
-        spelled = ap (λ z. pieces_tokens 0 e.h z (spells 0 e.ts)) f ∙ ap (λ z. z ++ pieces_tokens 0 e.h ps (spells 0 e.ts)) text' ∙ ap
+        place_is = e.place_is ∙ sym b.place ∙ at;
+        own = subst (λ z. is_own (own_of z) e.h ≡ true) (sym f.form) (subst (λ z. is_own o z ≡ true) (sym is_h) b.own);
+        kids = subst (λ z. are_kids (level k e.h.text) (kid_pieces z) e.ts ≡ true) (sym f.form) (e.kids (level k e.h.text));
+        ends = subst (λ z. kids_end z (edges e.ts) ≡ true) (sym f.form) e.ends;
+        label = no_label e.h e.ts k e.kind_is f.ordinary.yield;
+        spelled = ap (λ z. pieces_tokens 0 e.h z (spells 0 e.ts)) f.form ∙ ap (λ z. z ++ pieces_tokens 0 e.h ps (spells 0 e.ts)) text ∙ ap
             (λ z. map unplaced v ++ z) e.spelled ∙ sym (map-append unplaced v u);
-        placed = subst (λ z. HavePlaces x.file x.tokens (begins e.h z n (spells 0 e.ts)) e.ts) (sym f)
+        placed = subst (λ z. HavePlaces x.file x.tokens (begins e.h z n (spells 0 e.ts)) e.ts) (sym f.form)
             (subst (λ z. HavePlaces x.file x.tokens (begins e.h ps z (spells 0 e.ts)) e.ts) ln e.placed);
-        stops_at = λ z i. subst (λ q. form_stops z e.h true q (stops_each z e.ts) ≡ true) (sym f)
+        stops_at = λ z i. subst (λ q. form_stops z e.h true q (stops_each z e.ts) ≡ true) (sym f.form)
             (e.stops_at (λ q. true) (λ q j. refl) z i);
       };
-      adds = e.adds ∙ ap (λ z. add (branch e.h (nodes_of (z ++ list_of e.ts))) hs) ks ∙ ap (λ z. add (branch e.h z) hs) (back e.ts);
+      adds = e.adds ∙ ap (λ z. add (branch e.h (nodes_of (z ++ list_of e.ts))) hs) b.kids ∙ ap (λ z. add (branch e.h z) hs) (back e.ts);
     }
 
 abbrev pub first_in : Node → List Node → Node
@@ -181,18 +204,30 @@ pub record Operand (x : Source) (s : Sort) (a : Node) (n m : ℕ) (v rest : List
   pub is : IsTree x s n v rest a
   pub at : m ≡ n + length v
 
--- a form whose first piece is the operand `a` and whose second is the sign `t`
+-- a form whose first piece is an operand of the sort `s` and whose second is the sign `d`
+pub record SignForm (k : Kind) (s r : Sort) (d : Sign) (ps : List Piece) : Type 0 where
+  -- its pieces
+  pub form : form_of k ≡ pi.Kid r ∷ pi.Fixed d ∷ ps
+  -- the operand is of the sort
+  pub operand : (y : List ℕ) → sort_in (level k y) r ≡ s
+  -- a tree of the kind is placed at the sign
+  pub operator : is_operator k ≡ true
+  -- it is no `yield`
+  pub yield : is_yield k ≡ false
+  -- the pieces behind the sign are read one by one
+  pub simple : Simple ps
+
+-- such a form, of the operand `a` and the sign `t`
 pub behind_operand : (x : Source) (k : Kind) (s r : Sort) (d : Sign) (ps : List Piece) (hs : List Group) (a : Node) (t : Token) (n n1 m : ℕ)
-    (v u w : List Token) (gs' : List Group) → form_of k ≡ pi.Kid r ∷ pi.Fixed d ∷ ps → ((y : List ℕ) → sort_in (level k y) r ≡ s) →
-    is_operator k ≡ true → is_yield k ≡ false → Simple ps → Operand x s a n n1 v (t ∷ (u ++ w)) → Begun x d t n1 m →
+    (v u w : List Token) (gs' : List Group) → SignForm k s r d ps → Operand x s a n n1 v (t ∷ (u ++ w)) → Begun x d t n1 m →
     Reads x (symbols ps ++ sy.Close k ∷ []) (begun t.place (a ∷ []) ∷ hs) m u w gs' → Form x k hs n (v ++ (t ∷ u)) w gs'
 unfolding is_shaped spell stops HasPlaces
-behind_operand x k s r d ps hs a t n n1 m v u w gs' f sr op y c q b rd =
+behind_operand x k s r d ps hs a t n n1 m v u w gs' f q b rd =
     let g = begun t.place (a ∷ []) in
     let bare : Bare g = record { text = refl; number = refl; suffix = refl } in
-    let e = whole_form x k ps g hs m u w gs' c (λ z. bare) rd in
+    let e = whole_form x k ps g hs m u w gs' f.simple (λ z. bare) rd in
     let ln : length (spell 0 a) ≡ length v = ap length q.is.spelled ∙ length-map v unplaced in
-    let op' : is_operator e.h.kind ≡ true = ap is_operator e.kind_is ∙ op in
+    let op' : is_operator e.h.kind ≡ true = ap is_operator e.kind_is ∙ f.operator in
     let at : place_of x.tokens n1 ≡ place_of x.tokens (n + place_in e.h (more a e.ts)) =
     ap (place_of x.tokens) (q.at ∙ ap (λ z. n + z) (sym (ap (λ z. if z then length (spell 0 a) else 0) op' ∙ ln))) in
     let far : n + length (spell 0 a ++ []) ≡ n1 = omega (arith, ap length (append-nil (spell 0 a)), ln, q.at) in
@@ -202,24 +237,24 @@ behind_operand x k s r d ps hs a t n n1 m v u w gs' f sr op y c q b rd =
       made = record {
         kind_is = e.kind_is;
         place_is = e.place_is ∙ sym b.place ∙ at;
-        own = subst (λ z. is_own (own_of z) e.h ≡ true) (sym f) (own_from ps e.h g k bare e.owns e.kept);
-        kids = subst (λ z. are_kids (level k e.h.text) (kid_pieces z) (more a e.ts) ≡ true) (sym f)
-            (all_two (is_shaped (sort_in (level k e.h.text) r) a) _ (subst (λ z. is_shaped z a ≡ true) (sym (sr e.h.text)) q.is.shaped)
-            (e.kids (level k e.h.text)));
-        ends = subst (λ z. kids_end z (edges (more a e.ts)) ≡ true) (sym f)
+        own = subst (λ z. is_own (own_of z) e.h ≡ true) (sym f.form) (own_from ps e.h g k bare e.owns e.kept);
+        kids = subst (λ z. are_kids (level k e.h.text) (kid_pieces z) (more a e.ts) ≡ true) (sym f.form)
+            (all_two (is_shaped (sort_in (level k e.h.text) r) a) _
+            (subst (λ z. is_shaped z a ≡ true) (sym (f.operand e.h.text)) q.is.shaped) (e.kids (level k e.h.text)));
+        ends = subst (λ z. kids_end z (edges (more a e.ts)) ≡ true) (sym f.form)
             (all_two (ends_before (Some d) (edge a)) (kids_end ps (edges e.ts))
             (edge_ends (Some d) a (λ z i. q.is.ends z (b.class ∙ ap cl.Sign (some_same d z i)))) e.ends);
-        label = no_label e.h (more a e.ts) k e.kind_is y;
-        spelled = ap (λ z. pieces_tokens 0 e.h z (spells 0 (more a e.ts))) f ∙ ap
+        label = no_label e.h (more a e.ts) k e.kind_is f.yield;
+        spelled = ap (λ z. pieces_tokens 0 e.h z (spells 0 (more a e.ts))) f.form ∙ ap
             (λ z. z ++ (sign_token 0 d ∷ pieces_tokens 0 e.h ps (spells 0 e.ts))) (append-nil (spell 0 a) ∙ q.is.spelled) ∙ ap
             (λ z. map unplaced v ++ (sign_token 0 d ∷ z)) e.spelled ∙ ap (λ z. map unplaced v ++ (z ∷ map unplaced u))
             (sym (sign_is t d b.class)) ∙ sym (map-append unplaced v (t ∷ u));
-        placed = subst (λ z. HavePlaces x.file x.tokens (begins e.h z n (spells 0 (more a e.ts))) (more a e.ts)) (sym f) (
+        placed = subst (λ z. HavePlaces x.file x.tokens (begins e.h z n (spells 0 (more a e.ts))) (more a e.ts)) (sym f.form) (
           subst (λ z. HasPlaces x.file x.tokens z a) (omega arith) q.is.placed,
           subst
               (λ z. HavePlaces x.file x.tokens (begins e.h ps z (spells 0 e.ts)) e.ts) (b.next ∙ ap (λ z. z + 1) (sym far)) e.placed,
         );
-        stops_at = λ z i. subst (λ p. form_stops z e.h true p (stops_each z (more a e.ts)) ≡ true) (sym f)
+        stops_at = λ z i. subst (λ p. form_stops z e.h true p (stops_each z (more a e.ts)) ≡ true) (sym f.form)
             (e.stops_at (λ p. true) (λ p j. refl) z i);
       };
       adds = e.adds ∙ ap (λ z. add (branch e.h (more a z)) hs) (back e.ts);
