@@ -69,20 +69,35 @@ told_short sg se l st s ts q n k a f ws t forced =
     by c e (inl x) = subst (λ y. IsOn y t.sooner) e x
     by c e (inr x) = let y = a.below in absurd (omega (arith, x, e, y))
 
+-- The tokens `u` are a front of a file and of the tokens of a tree, which passes a limit at their token `k` and is whole in front of their
+-- end.
+record WholeWithin {T : Type 0} (l : Language T) (st : List Symbol) (ts u xs : List Token) (k : ℕ) (tree : T) : Type 0 where
+  -- the run that reads the tree
+  again : Reread l st xs tree
+  -- the token is one of these
+  within : k < length u
+  -- they begin the file
+  front : IsFront u (joined (numbered 1 ts))
+  -- they begin what the run uses, and the token behind it
+  shared : IsFront u (again.used ++ again.last ∷ [])
+  -- the run is over in front of their end
+  over : length again.used < length u
+  -- the tree passes a limit there
+  passes : IsOn k (l.deep_of tree)
+
 -- where it is over in front of the last of them, the tree is whole with the front
 told_whole : {T : Type 0} → StepsGain → StepsEnd → (l : Language T) (st : List Symbol) → Reads l st →
-    (ts u xs : List Token) (k : ℕ) (tree : T) → (r : Reread l st xs tree) → k < length u → IsFront u (joined (numbered 1 ts)) →
-    IsFront u (r.used ++ r.last ∷ []) → length r.used < length u → IsOn k (l.deep_of tree) →
-    IsOn (line_of u k) (gauge (seen ts) st start).faults
-told_whole sg se l st s ts u xs k tree r a f g m i =
+    (ts u xs : List Token) (k : ℕ) (tree : T) → WholeWithin l st ts u xs k tree → IsOn (line_of u k) (gauge (seen ts) st start).faults
+told_whole sg se l st s ts u xs k tree o =
+    let r = o.again in
     let w = whole sg se st s.held s.none r.used r.last r.top r.made r.ascends r.done in
     let all = r.used ++ r.last ∷ [] in
-    let x = r.faulty.faults.kept (line_of all k) (map_on (line_of all) k (l.deep_of tree) i) in
-    let h = front_then r.used u (joined (numbered 1 ts)) (front_long u r.used (r.last ∷ []) g (omega (arith, m))) f in
+    let x = r.faulty.faults.kept (line_of all k) (map_on (line_of all) k (l.deep_of tree) o.passes) in
+    let h = front_then r.used u (joined (numbered 1 ts)) (front_long u r.used (r.last ∷ []) o.shared (omega (arith, o.over))) o.front in
     told_on st w.next r.used ts w.trees w.told (line_of u k) w.reaches h
-    (by w (subst (λ y. IsOn y (pile_faults [] r.made)) (front_line u all g k a) x))
+    (by w (subst (λ y. IsOn y (pile_faults [] r.made)) (front_line u all o.shared k o.within) x))
   where
-    by : (w : Whole st r.used r.made) → IsOn (line_of u k) (pile_faults [] r.made) → IsOn (line_of u k) w.told
+    by : (w : Whole st o.again.used o.again.made) → IsOn (line_of u k) (pile_faults [] o.again.made) → IsOn (line_of u k) w.told
     by w x = or (w.gains.only (line_of u k) x)
       where
         or : IsOn (line_of u k) [] ⊎ IsOn (line_of u k) w.told → IsOn (line_of u k) w.told
@@ -116,8 +131,14 @@ least_faults sg se l st s ts n d =
         (length r.used < length (joined (numbered 1 (take d.read ts)))) ⊎ (length (joined (numbered 1 (take d.read ts))) ≤ length r.used) →
         (m : ℕ) × (m ≤ n) × IsOn (suc m) (gauge (seen ts) st start).faults
     by a r f h (inl m) = number (take d.read ts) a _ refl
-        (told_whole sg se l st s ts (joined (numbered 1 (take d.read ts))) (take d.read ts ++ d.viable.1.behind) d.at d.viable.0 r a.within
-        f h m (d.forced d.viable.0 d.viable.1))
+        (told_whole sg se l st s ts (joined (numbered 1 (take d.read ts))) (take d.read ts ++ d.viable.1.behind) d.at d.viable.0 (record {
+          again = r;
+          within = a.within;
+          front = f;
+          shared = h;
+          over = m;
+          passes = d.forced d.viable.0 d.viable.1;
+        }))
     by a r f h (inr m) =
         let u = joined (numbered 1 (take d.read ts)) in
         let w = whole sg se st s.held s.none r.used r.last r.top r.made r.ascends r.done in
