@@ -1,10 +1,3 @@
-pub mod Runs
-pub mod Answers
-pub mod Over
-pub mod Low
-pub mod Stuck
-pub mod Places
-pub mod Once
-pub mod Least
-pub mod Behind
-pub mod Sources
+pub mod RunOutcomes
+pub mod OneAnswer
+pub mod SourceTrees

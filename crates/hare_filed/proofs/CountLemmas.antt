@@ -4,7 +4,7 @@ use Rattle.std.proofs.lemmas.List.Sums.{sum_by-append, sum_by-cons}
 use Rattle.hare_tree.specs.declared.tree.FileTree.{FileTree}
 use Rattle.hare_tree.specs.Node.{Node, nodes_of}
 use Rattle.hare_tree.specs.Size.{text_bytes, texts_bytes, file_text_bytes}
-use Rattle.hare_decl.proofs.Sources.{sources_have_few_texts}
+use Rattle.hare_decl.proofs.SourceTrees.Sources.{sources_have_few_texts}
 use Rattle.hare_sources.specs.Files.{most_of_all, AreReadFrom}
 use Rattle.hare_filed.proofs.FileLemmas.{decls_from}
 

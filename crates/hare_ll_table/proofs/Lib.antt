@@ -1,5 +1,3 @@
-pub mod Classified
-pub mod Joining
-pub mod Places
 pub mod Rests
 pub mod Tops
+pub mod SeenTokens

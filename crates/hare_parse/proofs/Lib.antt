@@ -1,9 +1,5 @@
-pub mod Answered
-pub mod AtEnd
-pub mod FileParts
 pub mod Heights
 pub mod Kids
-pub mod Made
 pub mod Once
-pub mod Onward
-pub mod Placed
+pub mod ClosedRun
+pub mod MadeTrees

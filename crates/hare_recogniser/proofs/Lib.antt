@@ -1,11 +1,8 @@
 pub mod Capping
-pub mod Depths
-pub mod GaugedLoop
-pub mod GaugedRuns
 pub mod KidMarks
-pub mod Numbers
 pub mod NumbersWithin
 pub mod Opened
 pub mod SteppedMarks
 pub mod Told
 pub mod Widths
+pub mod GaugedRun

@@ -9,7 +9,7 @@ use Rattle.hare_automaton.specs.Classes.{class_of}
 use Rattle.hare_tree.specs.Grammar.{is_proper_string, joined_to, joined, ends_in_string, begins_with_string}
 use Rattle.hare_ll_table.specs.Joined.{BeginsWith}
 use Rattle.hare_recogniser.specs.Width.{strings_in_front, width}
-use Rattle.hare_ll_table.proofs.Joining.{read_drop, drop_past, join_no, string_is, merged}
+use Rattle.hare_ll_table.proofs.SeenTokens.Joining.{read_drop, drop_past, join_no, string_is, merged}
 
 pub strings_at_more : (ts : List Token) (n : ℕ) (t : Token) → slice_get ts n ≡ Some t → is_proper_string t ≡ true →
     strings_in_front (drop n ts) ≡ 1 + strings_in_front (drop (n + 1) ts)

@@ -4,7 +4,7 @@ use Rattle.std.proofs.lemmas.List.Sums.{sum_by-cons, sum_by-le-sum_by}
 use Rattle.hare_tree.specs.declared.tree.FileTree.{FileTree}
 use Rattle.hare_tree.specs.Node.{Node, Nodes, branch, none, more, nodes_of}
 use Rattle.hare_tree.specs.Size.{node_count, kid_count, file_count}
-use Rattle.hare_decl.proofs.Sources.{sources_have_few_nodes}
+use Rattle.hare_decl.proofs.SourceTrees.Sources.{sources_have_few_nodes}
 use Rattle.hare_names.specs.Scopes.{is_binding, bindings_in, bindings_among}
 use Rattle.hare_names.specs.Answers.{IsFileOf, AreFiles}
 use Rattle.hare_sources.specs.Files.{most_of_all, bytes_of, AreReadFrom, AreRead}

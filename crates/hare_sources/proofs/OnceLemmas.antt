@@ -8,7 +8,7 @@ use Rattle.hare_tree.specs.declared.stop.Stop.{Stop}
 use Rattle.hare_tree.specs.declared.stop.Stop.TheVariants.{Fault, Memory}
 use Rattle.hare_tree.specs.declared.tree.FileTree.{FileTree}
 use Rattle.hare_decl.specs.Answers.{Stops}
-use Rattle.hare_decl.proofs.Once.{only_source, only_source_fault}
+use Rattle.hare_decl.proofs.OneAnswer.Once.{only_source, only_source_fault}
 use Rattle.hare_modules.specs.Order.{decides, counts_before, IsFirst}
 use Rattle.hare_modules.specs.Modules.{sources}
 use Rattle.hare_names.specs.Violations.{IsViolation}

@@ -1,7 +1,7 @@
 use Rattle.std.proofs.Common.{ap}
 use Rattle.hare_tree.specs.declared.place.Place.{Place}
 use Rattle.hare_tree.specs.declared.place.Fault as fault
-use Rattle.hare_decl.proofs.Places.{place_got}
+use Rattle.hare_decl.proofs.OneAnswer.Places.{place_got}
 use Rattle.hare_decl.proofs.file.fault_at.Goals as goal
 
 pub returns : goal.returns

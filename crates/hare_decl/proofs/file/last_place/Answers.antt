@@ -1,5 +1,5 @@
 use Rattle.std.proofs.Common.{◌∙◌, arith}
-use Rattle.hare_decl.proofs.Places.{place_got, some_got, last_is}
+use Rattle.hare_decl.proofs.OneAnswer.Places.{place_got, some_got, last_is}
 use Rattle.hare_decl.proofs.file.last_place.Goals as goal
 
 pub returns-in-Some-get : goal.returns-in-Some-get

@@ -1,4 +1,4 @@
-use Rattle.hare_decl.proofs.Once.{only_tree, only_fault}
+use Rattle.hare_decl.proofs.OneAnswer.Once.{only_tree, only_fault}
 use Rattle.hare_decl.proofs.file.parse_file.Goals as goal
 
 pub returns-clause-only_tree : goal.returns-clause-only_tree

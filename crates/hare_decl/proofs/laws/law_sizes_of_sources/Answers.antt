@@ -1,4 +1,4 @@
-use Rattle.hare_decl.proofs.Sources.{sources_have_few_nodes, sources_have_few_texts}
+use Rattle.hare_decl.proofs.SourceTrees.Sources.{sources_have_few_nodes, sources_have_few_texts}
 use Rattle.hare_decl.proofs.laws.law_sizes_of_sources.Goals as goal
 
 pub returns-clause-nodes : goal.returns-clause-nodes

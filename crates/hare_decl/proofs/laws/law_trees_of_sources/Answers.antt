@@ -1,4 +1,4 @@
-use Rattle.hare_decl.proofs.Sources.{sources_fit, sources_stand_over_tokens}
+use Rattle.hare_decl.proofs.SourceTrees.Sources.{sources_fit, sources_stand_over_tokens}
 use Rattle.hare_decl.proofs.laws.law_trees_of_sources.Goals as goal
 
 pub returns-clause-fit : goal.returns-clause-fit

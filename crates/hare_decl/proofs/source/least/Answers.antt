@@ -1,4 +1,4 @@
-use Rattle.hare_decl.proofs.Least.{least_of_syntax, least_behind_file, least_behind_front}
+use Rattle.hare_decl.proofs.OneAnswer.Least.{least_of_syntax, least_behind_file, least_behind_front}
 use Rattle.hare_decl.proofs.source.least.Goals as goal
 
 pub returns-in-Ok-Faulty : goal.returns-in-Ok-Faulty

@@ -1,4 +1,4 @@
-use Rattle.hare_decl.proofs.Once.{only_source, only_source_fault}
+use Rattle.hare_decl.proofs.OneAnswer.Once.{only_source, only_source_fault}
 use Rattle.hare_decl.proofs.source.parse_source.Goals as goal
 
 pub returns-clause-only_tree : goal.returns-clause-only_tree

@@ -1,6 +1,6 @@
 use Rattle.std.proofs.Common.{subst}
 use Rattle.hare_lex.specs.Stops.{Stops}
-use Rattle.hare_decl.proofs.Once.{least_stops}
+use Rattle.hare_decl.proofs.OneAnswer.Once.{least_stops}
 use Rattle.hare_decl.proofs.source.source_of.Goals as goal
 
 pub returns-in-Err-Fault-clause-err : goal.returns-in-Err-Fault-clause-err

@@ -1,5 +1,5 @@
 use Rattle.std.proofs.Common.{arith}
-use Rattle.hare_decl.proofs.Stuck.{depth_first, no_depth, stuck_at_token, stuck_at_end, end_not_used}
+use Rattle.hare_decl.proofs.RunOutcomes.Stuck.{depth_first, no_depth, stuck_at_token, stuck_at_end, end_not_used}
 use Rattle.hare_decl.proofs.syntax.gauged_syntax.Goals as goal
 
 pub returns-in-Some-clause-value : goal.returns-in-Some-clause-value

@@ -1,6 +1,6 @@
 use Rattle.std.proofs.Common.{arith}
 use Rattle.std.proofs.lemmas.Bool.{leb-true}
-use Rattle.hare_decl.proofs.Behind.{last_end}
+use Rattle.hare_decl.proofs.RunOutcomes.Behind.{last_end}
 use Rattle.hare_decl.proofs.syntax.is_last_end.Goals as goal
 
 pub returns-in-Some : goal.returns-in-Some

@@ -1,5 +1,5 @@
 use Rattle.std.proofs.Common.{arith}
-use Rattle.hare_decl.proofs.Behind.{over_at_other, over_at_end, over_at_last, over_somewhere}
+use Rattle.hare_decl.proofs.RunOutcomes.Behind.{over_at_other, over_at_end, over_at_last, over_somewhere}
 use Rattle.hare_decl.proofs.syntax.over_at.Goals as goal
 use Rattle.hare_decl.proofs.syntax.over_at.Goals.{in_default-via-in-Some+else-is_end, in_default-via-in_default}
 

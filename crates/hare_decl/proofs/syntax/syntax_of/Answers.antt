@@ -5,8 +5,8 @@ use Rattle.hare_automaton.specs.Engine.{Done, run, bottom}
 use Rattle.hare_automaton.specs.OneTree.{file_symbols}
 use Rattle.hare_parse.specs.Files.{HaveSorts, file_made}
 use Rattle.hare_parse.proofs.Heights.{high}
-use Rattle.hare_decl.proofs.Low.{low_files}
-use Rattle.hare_decl.proofs.Over.{low_whole}
+use Rattle.hare_decl.proofs.SourceTrees.Low.{low_files}
+use Rattle.hare_decl.proofs.RunOutcomes.Over.{low_whole}
 use Rattle.hare_decl.proofs.syntax.syntax_of.Goals as goal
 
 pub returns-in-Some-clause-value : goal.returns-in-Some-clause-value

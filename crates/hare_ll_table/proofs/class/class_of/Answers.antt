@@ -1,4 +1,4 @@
-use Rattle.hare_ll_table.proofs.Classified.{class_of_name, class_of_keyword}
+use Rattle.hare_ll_table.proofs.SeenTokens.Classified.{class_of_name, class_of_keyword}
 use Rattle.hare_ll_table.proofs.class.class_of.Goals as goal
 
 pub returns-in-Name-clause-value : goal.returns-in-Name-clause-value

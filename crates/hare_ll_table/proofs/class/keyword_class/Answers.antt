@@ -1,5 +1,5 @@
 use Rattle.hare_automaton.specs.Classes.{keyword_signs}
-use Rattle.hare_ll_table.proofs.Classified.{sign_or_other}
+use Rattle.hare_ll_table.proofs.SeenTokens.Classified.{sign_or_other}
 use Rattle.hare_ll_table.proofs.class.keyword_class.Goals as goal
 
 pub returns-in-None-clause-value : goal.returns-in-None-clause-value

@@ -1,8 +1,8 @@
 use Rattle.std.proofs.Common.{◌≡◌, ◌++◌, sym, ◌∙◌, ap, arith, true, false}
 use Rattle.std.proofs.lemmas.Option.{slice_get_within}
 use Rattle.hare_tree.specs.Grammar.{is_proper_string, string_at}
-use Rattle.hare_ll_table.proofs.Joining.{first_so_far, more_so_far, ends_at, ends_past}
-use Rattle.hare_ll_table.proofs.Places.{strings_end_at, strings_end_past}
+use Rattle.hare_ll_table.proofs.SeenTokens.Joining.{first_so_far, more_so_far, ends_at, ends_past}
+use Rattle.hare_ll_table.proofs.SeenTokens.Places.{strings_end_at, strings_end_past}
 use Rattle.hare_ll_table.proofs.strings.strings_at.Goals as goal
 
 pub place_behind-next-requires : goal.place_behind-next-requires

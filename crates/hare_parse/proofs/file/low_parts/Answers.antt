@@ -1,4 +1,4 @@
-use Rattle.hare_parse.proofs.Made.{file_is, file_low}
+use Rattle.hare_parse.proofs.MadeTrees.Made.{file_is, file_low}
 use Rattle.hare_parse.proofs.file.low_parts.Goals as goal
 
 pub returns-in_ok-parts-in-Some-clause-made : goal.returns-in_ok-parts-in-Some-clause-made

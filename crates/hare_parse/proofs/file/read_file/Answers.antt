@@ -3,8 +3,8 @@ use Rattle.std.proofs.lemmas.Grind.{common_steps}
 use Rattle.hare_tree.specs.Grammar.{joined}
 use Rattle.hare_automaton.specs.Engine.{Done, run, bottom}
 use Rattle.hare_automaton.specs.OneTree.{file_symbols}
-use Rattle.hare_parse.proofs.Made.{holds_file, file_read}
-use Rattle.hare_ll_table.proofs.Places.{place_from_start}
+use Rattle.hare_parse.proofs.MadeTrees.Made.{holds_file, file_read}
+use Rattle.hare_ll_table.proofs.SeenTokens.Places.{place_from_start}
 use Rattle.hare_parse.proofs.file.read_file.Goals as goal
 
 pub trees_in-requires : goal.trees_in-requires

@@ -4,8 +4,8 @@ use Rattle.hare_tree.specs.Grammar.{joined}
 use Rattle.hare_automaton.specs.Engine.{Done, run, bottom}
 use Rattle.hare_automaton.specs.OneTree.{file_symbols}
 use Rattle.hare_ll_table.specs.Places.{IsPlace}
-use Rattle.hare_ll_table.proofs.Places.{place_from_start}
-use Rattle.hare_parse.proofs.Made.{holds_file}
+use Rattle.hare_ll_table.proofs.SeenTokens.Places.{place_from_start}
+use Rattle.hare_parse.proofs.MadeTrees.Made.{holds_file}
 use Rattle.hare_parse.proofs.file.read_low_file.Goals as goal
 
 pub low_parts-requires : goal.low_parts-requires

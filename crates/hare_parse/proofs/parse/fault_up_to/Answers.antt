@@ -1,7 +1,7 @@
 use Rattle.std.proofs.Common.{◌≡◌, ◌-◌, min, sym, ap, ◌∙◌}
 use Rattle.hare_tree.specs.Grammar.{place_of}
 use Rattle.hare_parse.specs.Answers.{place_up_to}
-use Rattle.hare_parse.proofs.Placed.{place_last}
+use Rattle.hare_parse.proofs.ClosedRun.Placed.{place_last}
 use Rattle.hare_parse.proofs.parse.fault_up_to.Goals as goal
 
 pub returns : goal.returns

@@ -1,7 +1,7 @@
 use Rattle.std.proofs.Common.{drop, subst}
 use Rattle.hare_tree.specs.Grammar.{trees_of}
 use Rattle.hare_recogniser.specs.Limits.{IsFirstDepth}
-use Rattle.hare_parse.proofs.Answered.{told_is_fault}
+use Rattle.hare_parse.proofs.ClosedRun.Answered.{told_is_fault}
 use Rattle.hare_parse.proofs.parse.parse.Goals as goal
 
 pub returns-in-Some-clause-err : goal.returns-in-Some-clause-err

@@ -2,7 +2,7 @@ use Rattle.std.proofs.Common.{◌-◌, drop, ap, ◌∙◌, subst}
 use Rattle.hare_ll_table.specs.Places.{IsPlace}
 use Rattle.hare_parse.specs.Runs.{outcome_of, place_of}
 use Rattle.hare_parse.specs.Answers.{IsRead}
-use Rattle.hare_parse.proofs.Answered.{done_is_parsed, stuck_is_fault}
+use Rattle.hare_parse.proofs.ClosedRun.Answered.{done_is_parsed, stuck_is_fault}
 use Rattle.hare_parse.proofs.parse.parse_shallow.Goals as goal
 
 pub returns-in-Done-clause-ok : goal.returns-in-Done-clause-ok

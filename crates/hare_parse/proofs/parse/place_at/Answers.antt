@@ -1,6 +1,6 @@
 use Rattle.std.proofs.Common.{sym, arith}
 use Rattle.std.proofs.lemmas.Grind.{common_steps}
-use Rattle.hare_parse.proofs.Placed.{place_got}
+use Rattle.hare_parse.proofs.ClosedRun.Placed.{place_got}
 use Rattle.hare_parse.proofs.parse.place_at.Goals as goal
 
 pub returns : goal.returns

@@ -1,7 +1,7 @@
 use Rattle.std.proofs.Common.{inl, inr}
 use Rattle.hare_ll_table.specs.declared.answer.Answer.TheVariants as an
 use Rattle.hare_ll_table.specs.Seen.{waited}
-use Rattle.hare_parse.proofs.AtEnd.{at_end, says_at}
+use Rattle.hare_parse.proofs.ClosedRun.AtEnd.{at_end, says_at}
 use Rattle.hare_parse.proofs.reader.ends.Goals as goal
 
 pub returns-in-Ends : goal.returns-in-Ends

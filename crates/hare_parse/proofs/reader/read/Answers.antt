@@ -7,8 +7,8 @@ use Rattle.hare_automaton.specs.Engine.{Done, Fails, run, bottom}
 use Rattle.hare_ll_table.specs.Seen.{waited}
 use Rattle.hare_nesting.specs.Depth.{closed}
 use Rattle.hare_parse.specs.Runs.{outcome_at_end, IsUsedUp}
-use Rattle.hare_parse.proofs.Made.{holds_tree}
-use Rattle.hare_parse.proofs.AtEnd.{done_closed, fails_closed, used_closed, is_used_up}
+use Rattle.hare_parse.proofs.MadeTrees.Made.{holds_tree}
+use Rattle.hare_parse.proofs.ClosedRun.AtEnd.{done_closed, fails_closed, used_closed, is_used_up}
 use Rattle.hare_parse.proofs.reader.read.Goals as goal
 
 pub tree_in-requires : goal.tree_in-requires

@@ -1,6 +1,6 @@
 use Rattle.std.proofs.Common.{◌≡◌, false}
 use Rattle.hare_tree.specs.Grammar.{is_proper_string}
-use Rattle.hare_ll_table.proofs.Places.{begins_with_other}
+use Rattle.hare_ll_table.proofs.SeenTokens.Places.{begins_with_other}
 use Rattle.hare_parse.proofs.run.read_at.Goals as goal
 
 pub returns : goal.returns

@@ -3,9 +3,9 @@ use Rattle.std.proofs.lemmas.Grind.{common_steps}
 use Rattle.hare_tree.specs.Grammar.{joined}
 use Rattle.hare_automaton.specs.Engine.{run}
 use Rattle.hare_ll_table.specs.Seen.{waited}
-use Rattle.hare_parse.proofs.Onward.{run_on}
-use Rattle.hare_ll_table.proofs.Joining.{joined_past}
-use Rattle.hare_ll_table.proofs.Places.{place_further}
+use Rattle.hare_parse.proofs.ClosedRun.Onward.{run_on}
+use Rattle.hare_ll_table.proofs.SeenTokens.Joining.{joined_past}
+use Rattle.hare_ll_table.proofs.SeenTokens.Places.{place_further}
 use Rattle.hare_parse.proofs.run.run.Goals as goal
 
 pub returns-clause-value : goal.returns-clause-value

@@ -1,8 +1,8 @@
 use Rattle.std.proofs.Common.{refl, rules, arith}
 use Rattle.std.proofs.lemmas.Grind.{common_steps}
 use Rattle.hare_automaton.specs.Engine.{run}
-use Rattle.hare_ll_table.proofs.Joining.{joined_past}
-use Rattle.hare_ll_table.proofs.Places.{place_further}
+use Rattle.hare_ll_table.proofs.SeenTokens.Joining.{joined_past}
+use Rattle.hare_ll_table.proofs.SeenTokens.Places.{place_further}
 use Rattle.hare_parse.proofs.run.run_low.Goals as goal
 
 pub returns-clause-value : goal.returns-clause-value

@@ -4,7 +4,7 @@ use Rattle.hare_nesting.specs.Depth.{gauged}
 use Rattle.hare_nesting.proofs.LeastFault.Gauges.{gauges_tell}
 use Rattle.hare_ll_table.specs.Seen.{waited}
 use Rattle.hare_recogniser.specs.Gauged.{IsLeastOf, gauged_from}
-use Rattle.hare_recogniser.proofs.Depths.{first_told, trees_fit}
+use Rattle.hare_recogniser.proofs.GaugedRun.Depths.{first_told, trees_fit}
 use Rattle.hare_recogniser.proofs.depth.depth_fault.Goals as goal
 
 pub returns-clause-value : goal.returns-clause-value

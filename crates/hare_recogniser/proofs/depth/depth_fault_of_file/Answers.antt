@@ -8,7 +8,7 @@ use Rattle.hare_automaton.specs.Rows.{part}
 use Rattle.hare_ll_table.specs.declared.row.Wait.TheVariants as wa
 use Rattle.hare_ll_table.specs.Seen.{waited}
 use Rattle.hare_recogniser.specs.Gauged.{IsLeastOf, gauged_from}
-use Rattle.hare_recogniser.proofs.Depths.{first_told, files_fit}
+use Rattle.hare_recogniser.proofs.GaugedRun.Depths.{first_told, files_fit}
 use Rattle.hare_recogniser.proofs.depth.depth_fault_of_file.Goals as goal
 
 pub returns-clause-value : goal.returns-clause-value

@@ -4,7 +4,7 @@ use Rattle.hare_recogniser.specs.Agenda.{IsPaired}
 use Rattle.hare_recogniser.specs.Gauged.{seen_from}
 use Rattle.hare_ll_table.specs.Places.{IsPlace}
 use Rattle.hare_ll_table.specs.Seen.{waited}
-use Rattle.hare_recogniser.proofs.GaugedRuns.{Continues}
+use Rattle.hare_recogniser.proofs.GaugedRun.GaugedRuns.{Continues}
 use Rattle.hare_recogniser.proofs.run.run.Given as goal
 
 abbrev pub invariant-loop-token : goal.invariant-loop-token

@@ -8,8 +8,8 @@ use Rattle.hare_tree.specs.Grammar.{files, fault_at, before_end, IsFirstFault, I
 use Rattle.hare_decl.specs.Answers.{IsSyntax}
 use Rattle.hare_decl.specs.declared.syntax.Syntax.{Syntax}
 use Rattle.hare_decl.specs.declared.syntax.Syntax.TheVariants as sx
-use Rattle.hare_decl.proofs.Answers.{file_no_first}
-use Rattle.hare_decl.proofs.Places.{first_within, place_before_end}
+use Rattle.hare_decl.proofs.OneAnswer.OneOutcome.{file_no_first}
+use Rattle.hare_decl.proofs.OneAnswer.Places.{first_within, place_before_end}
 
 -- the first fault of the tokens before End
 pub least_of_tokens : (kept front : List Token) (lexical f : Fault) (number n : ℕ) → front ≡ before_end kept →

@@ -7,10 +7,10 @@ use Rattle.hare_tree.specs.Grammar.{files, IsFirstFault, joined}
 use Rattle.hare_automaton.specs.Engine.{bottom}
 use Rattle.hare_automaton.specs.OneTree.{file_symbols}
 use Rattle.hare_parse.specs.Files.{file_made}
-use Rattle.hare_ll_table.proofs.Joining.{read_drop, drop_past}
-use Rattle.hare_parse.proofs.Onward.{done_behind}
+use Rattle.hare_ll_table.proofs.SeenTokens.Joining.{read_drop, drop_past}
+use Rattle.hare_parse.proofs.ClosedRun.Onward.{done_behind}
 use Rattle.hare_decl.specs.Answers.{IsEnd, IsLastEnd, IsOver, IsFile}
-use Rattle.hare_decl.proofs.Over.{over_no_end, over_behind_end, over_whole}
+use Rattle.hare_decl.proofs.RunOutcomes.Over.{over_no_end, over_behind_end, over_whole}
 
 -- a token that is not End
 pub over_at_other : (file : ℕ) (ts : List Token) (uses decls : List Node) (n : ℕ) (t : Token) → IsOver file ts uses decls n →

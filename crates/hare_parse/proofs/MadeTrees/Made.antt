@@ -11,7 +11,7 @@ use Rattle.hare_prefixes.proofs.Soundness.Readings.{runs_read_trees, runs_read_f
 use Rattle.hare_parse.specs.Heights.{IsBound}
 use Rattle.hare_parse.specs.Runs.{HoldsTree}
 use Rattle.hare_parse.specs.Files.{imports, others, HaveSorts, HoldsFile, file_made}
-use Rattle.hare_parse.proofs.FileParts.{imports_in, others_in}
+use Rattle.hare_parse.proofs.MadeTrees.FileParts.{imports_in, others_in}
 use Rattle.hare_parse.proofs.Heights.{high}
 
 pub holds_tree : (s : Sort) (file : ℕ) (ts rest : List Token) (gs : List Group) → run file ts (of s ∷ []) bottom ≡ Done rest gs →

@@ -11,7 +11,7 @@ use Rattle.hare_lex.specs.declared.stop.LexStop.TheVariants as lex
 use Rattle.hare_lex.proofs.Whole.Unique.{only_tokens, only_break}
 use Rattle.hare_nesting.proofs.LeastFault.Firsts.{one_first}
 use Rattle.hare_decl.specs.Answers.{IsFile, IsSource, HasFirstFault, HasFault, HasSourceFault, Stops, GivesTree, GivesFault}
-use Rattle.hare_decl.proofs.Answers.{file_no_fault, one_fault}
+use Rattle.hare_decl.proofs.OneAnswer.OneOutcome.{file_no_fault, one_fault}
 
 -- ---- tokens
 

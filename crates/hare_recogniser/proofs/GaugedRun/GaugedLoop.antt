@@ -15,8 +15,8 @@ use Rattle.hare_recogniser.specs.Gauged.{Answers, seen_from, is_over, place_in, 
 use Rattle.hare_ll_table.specs.Places.{IsPlace}
 use Rattle.hare_recogniser.specs.Least.{lesser, least}
 use Rattle.hare_recogniser.specs.Width.{width}
-use Rattle.hare_recogniser.proofs.GaugedRuns.{Continues, Halts, goes_on, over_at, stuck_at, used_up}
-use Rattle.hare_recogniser.proofs.Numbers.{seen_at, seen_past}
+use Rattle.hare_recogniser.proofs.GaugedRun.GaugedRuns.{Continues, Halts, goes_on, over_at, stuck_at, used_up}
+use Rattle.hare_recogniser.proofs.GaugedRun.Numbers.{seen_at, seen_past}
 
 -- the token is read with this answer
 pub record ReadsAt (ts : List Token) (from at next : ℕ) (a : Answer) (st : List Symbol) (fs : List Frame) (st' : List Symbol)

@@ -22,7 +22,7 @@ use Rattle.hare_parse.specs.declared.run.Reached.{Reached}
 use Rattle.hare_parse.specs.declared.run.Reached.TheVariants as re
 use Rattle.hare_nesting.specs.Depth.{closed}
 use Rattle.hare_parse.specs.Runs.{outcome_at_end, IsUsedUp}
-use Rattle.hare_parse.proofs.Onward.{done_behind, done_more, fails_more}
+use Rattle.hare_parse.proofs.ClosedRun.Onward.{done_behind, done_more, fails_more}
 
 -- the outcome of a run that stops there
 abbrev pub outcome_at : Bool → List Token → List Group → Outcome

@@ -7,7 +7,7 @@ use Rattle.hare_tree.specs.declared.token.Token.{Token}
 use Rattle.hare_tree.specs.Grammar.{is_proper_string, joined, ends_in_string, begins_with_string, StandsAt}
 use Rattle.hare_ll_table.specs.Joined.{BeginsWith}
 use Rattle.hare_ll_table.specs.Places.{IsPlace}
-use Rattle.hare_ll_table.proofs.Joining.{read_drop, drop_past, joined_at, join_no}
+use Rattle.hare_ll_table.proofs.SeenTokens.Joining.{read_drop, drop_past, joined_at, join_no}
 
 pub and_false : (b : Bool) → (b && false) ≡ false
 and_false true = refl

@@ -4,7 +4,7 @@ use Rattle.std.proofs.lemmas.Option.{slice_get_within}
 use Rattle.hare_tree.specs.declared.token.Token.{Token}
 use Rattle.hare_tree.specs.Grammar.{Language, IsSyntaxFault, IsDepthFault, IsFirstFault, place_of, before_end}
 use Rattle.hare_prefixes.proofs.Joining.Places.{cut}
-use Rattle.hare_ll_table.proofs.Joining.{read_drop, drop_past}
+use Rattle.hare_ll_table.proofs.SeenTokens.Joining.{read_drop, drop_past}
 use Rattle.hare_decl.specs.Answers.{last_place}
 
 -- the place of the token that is got

@@ -12,7 +12,7 @@ use Rattle.hare_prefixes.proofs.FirstFault.FileFaults.{file_runs_use_no_end}
 use Rattle.hare_nesting.proofs.LeastFault.Firsts.{first_depth}
 use Rattle.hare_recogniser.specs.Limits.{IsFirstDepth}
 use Rattle.hare_decl.specs.Answers.{IsCut, HasEnd}
-use Rattle.hare_decl.proofs.Runs.{IsShallow, stuck_first, used_up_cut}
+use Rattle.hare_decl.proofs.RunOutcomes.Runs.{IsShallow, stuck_first, used_up_cut}
 
 -- ---- depth
 

@@ -11,9 +11,9 @@ use Rattle.hare_automaton.specs.Engine.{Group, Done}
 use Rattle.hare_automaton.proofs.Spelled.Paths.{split}
 use Rattle.hare_prefixes.proofs.Joining.Joined.{Head, head}
 use Rattle.hare_parse.specs.Files.{HaveSorts, file_made}
-use Rattle.hare_parse.proofs.FileParts.{parts_once}
+use Rattle.hare_parse.proofs.MadeTrees.FileParts.{parts_once}
 use Rattle.hare_decl.specs.Answers.{IsEnd, IsLastEnd, IsReadLow, IsOver, IsFile}
-use Rattle.hare_decl.proofs.Runs.{no_end_first, behind_end_first, whole_made, whole_is_file}
+use Rattle.hare_decl.proofs.RunOutcomes.Runs.{no_end_first, behind_end_first, whole_made, whole_is_file}
 
 -- ---- the token behind them
 

@@ -21,10 +21,10 @@ use Rattle.hare_nesting.specs.Depth.{closed}
 use Rattle.hare_recogniser.specs.Limits.{IsFirstDepth, TreesFit}
 use Rattle.hare_ll_table.specs.Places.{IsPlace}
 use Rattle.hare_tree.proofs.Low.Fitting.{fits_tree}
-use Rattle.hare_ll_table.proofs.Places.{and_false, drop_to}
-use Rattle.hare_parse.proofs.Onward.{done_behind}
+use Rattle.hare_ll_table.proofs.SeenTokens.Places.{and_false, drop_to}
+use Rattle.hare_parse.proofs.ClosedRun.Onward.{done_behind}
 use Rattle.hare_parse.specs.Answers.{IsRead, IsBroken, HasFault, fault_up_to}
-use Rattle.hare_parse.proofs.Placed.{place_dropped}
+use Rattle.hare_parse.proofs.ClosedRun.Placed.{place_dropped}
 
 -- ---- lists with End behind them
 
