@@ -14,8 +14,9 @@ use Rattle.hare_typed.specs.Order.{tree_from_front}
 use Rattle.hare_rules.specs.Constants.{is_absent_value}
 use Rattle.hare_rules.specs.Context.{place_of, own_type, is_there}
 use Rattle.hare_const.specs.NodeValues.{Refuses}
-use Rattle.hare_const.specs.Settled.{IsSettled, ConstantsStay}
-use Rattle.hare_const.specs.Statics.{IsCoherent}
+use Rattle.hare_typed.specs.Settled.{IsSettled}
+use Rattle.hare_const.specs.Settled.{ConstantsStay}
+use Rattle.hare_typed.specs.Coherent.{IsCoherent}
 use Rattle.rule_judge.specs.Defined.{IsDefinedTy, AreDefinedTrees}
 use Rattle.rule_judge.proofs.KidLemmas.{front_found, own_defined}
 use Rattle.hare_bindings.specs.Own.{place_inside, in_the_end, value_among, IsPlaceAmong}

@@ -23,9 +23,9 @@ use Rattle.hare_const.specs.declared.outcome.Outcome.{Outcome}
 use Rattle.hare_const.specs.declared.outcome.Outcome.TheVariants.{Known}
 use Rattle.hare_const.specs.NodeValues.{on_answer, coerced_value}
 use Rattle.hare_const.specs.Made.{own_object}
-use Rattle.hare_const.specs.Joined.{IsJoined, Joins}
+use Rattle.hare_typed.specs.Joined.{IsJoined, Joins}
 use Rattle.hare_const.specs.Coerced.{sliced_or, object_or, value_by_row, object_by_row, sliced_as, joined_as, joined_value, joined_object}
-use Rattle.hare_const.specs.Settled.{HasBase}
+use Rattle.hare_typed.specs.Settled.{HasBase}
 use Rattle.hare_const.proofs.LaterTypes.{length_same}
 use Rattle.hare_const.proofs.JoinedLemmas.{row_in, row_coerced, told_chosen}
 use Rattle.hare_const.proofs.LaterUnions.{by_row_same, element_same, chosen_same, row_same}

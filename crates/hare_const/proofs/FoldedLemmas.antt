@@ -15,8 +15,9 @@ use Rattle.hare_typed.specs.State.{Result}
 use Rattle.hare_typed.specs.ConstantValues.{constant_result}
 use Rattle.hare_typed.specs.Folded.{tagged_by_id, folded_from, folded, inconstant}
 use Rattle.hare_const.specs.NodeValues.{cells_in, Refuses}
-use Rattle.hare_const.specs.Settled.{IsSettled}
-use Rattle.hare_const.specs.Statics.{IsCoherent, objects_in, objects_led_to}
+use Rattle.hare_typed.specs.Settled.{IsSettled}
+use Rattle.hare_typed.specs.Coherent.{IsCoherent}
+use Rattle.hare_const.specs.Statics.{objects_in, objects_led_to}
 use Rattle.hare_const.proofs.LaterNodes.{coherent_stays}
 use Rattle.hare_const.proofs.LaterTrees.{constants_stay, objects_stay}
 use Rattle.hare_const.proofs.StaticLemmas.{folded_known}

@@ -17,9 +17,9 @@ use Rattle.hare_assign.specs.Shapes.{types_at}
 use Rattle.hare_assign.specs.Chosen.{is_its_default, first_of, first_member, first_choice}
 use Rattle.hare_assign.specs.Growth.{HasBase as TreeHasBase, IsKnown, AreKnown}
 use Rattle.hare_assign.proofs.ChosenLemmas.{base_is, base_union}
-use Rattle.hare_const.specs.Joined.{AreTold, IsToldUnion}
-use Rattle.hare_const.specs.Sizes.{Fits}
-use Rattle.hare_const.specs.Settled.{HasBase}
+use Rattle.hare_typed.specs.Joined.{AreTold, IsToldUnion}
+use Rattle.hare_typed.specs.Sizes.{Fits}
+use Rattle.hare_typed.specs.Settled.{HasBase}
 use Rattle.hare_const.proofs.LaterTypes.{in_store}
 
 -- ---- which member it is

@@ -14,9 +14,9 @@ use Rattle.hare_typed.specs.Answers.{Gives}
 use Rattle.hare_typed.specs.Coercions.{coerced_by, coerced_to_union, coerced_into, inner_to, inner_by, element_by}
 use Rattle.hare_const.specs.NodeValues.{on_answer, object_number, coerced_value, cells_to_coerce, slice_of}
 use Rattle.hare_const.specs.declared.outcome.Outcome.TheVariants.{Known}
-use Rattle.hare_const.specs.Joined.{Joins}
+use Rattle.hare_typed.specs.Joined.{Joins}
 use Rattle.hare_const.specs.Made.{own_object}
-use Rattle.hare_const.specs.Settled.{HasBase}
+use Rattle.hare_typed.specs.Settled.{HasBase}
 use Rattle.hare_const.proofs.LaterTypes.{length_same}
 use Rattle.hare_const.proofs.LaterUnions.{SameTags, by_row_same, element_same, union_sliced, union_same}
 

@@ -32,12 +32,13 @@ use Rattle.hare_typed.specs.ConstantForms.{own_type, type_of_kid, is_iconst, int
 use Rattle.hare_const.specs.declared.operands.Operands.TheVariants.{OneKid, TwoKids}
 use Rattle.hare_const.specs.declared.outcome.Outcome.{Outcome}
 use Rattle.hare_const.specs.declared.outcome.Outcome.TheVariants.{Known, Aborts, Undefined}
-use Rattle.hare_const.specs.NodeValues.{on_cells, on_answer, kid_at, kids_at, numbered, number_of_kid, same_texts, negation, complement, order_value, equality_value, cast_value, offset_value, arithmetic_value, shift_value, length_value, array_length_value, tuple_value, struct_value, array_value, type_with_offset, part_with_offset, unary_value, binary_value, operator_value, kind_value, HasNumber, HasParts, fields_given, components_given, AskedKind, PlainKind}
-use Rattle.hare_const.specs.Operators.{IsWidth}
-use Rattle.hare_const.specs.Sizes.{Fits, HasPart}
-use Rattle.hare_const.specs.Texts.{keeps_text, text_by, text_of, text_of_kid, bytes_told, AreTexts}
-use Rattle.hare_const.specs.Statics.{is_text_equality, compares_texts, compares_texts_each, IsCoherent}
-use Rattle.hare_const.specs.Settled.{HasBase, HasBases, HaveBases}
+use Rattle.hare_typed.specs.Settled.{type_with_offset, part_with_offset, HasNumber, HasParts, fields_given, components_given, AskedKind, PlainKind}
+use Rattle.hare_const.specs.NodeValues.{on_cells, on_answer, kid_at, kids_at, numbered, number_of_kid, same_texts, negation, complement, order_value, equality_value, cast_value, offset_value, arithmetic_value, shift_value, length_value, array_length_value, tuple_value, struct_value, array_value, unary_value, binary_value, operator_value, kind_value}
+use Rattle.hare_typed.specs.Settled.{IsWidth}
+use Rattle.hare_typed.specs.Sizes.{Fits, HasPart}
+use Rattle.hare_typed.specs.Texts.{keeps_text, text_by, text_of, text_of_kid, bytes_told, AreTexts}
+use Rattle.hare_typed.specs.Coherent.{is_text_equality, compares_texts, compares_texts_each, IsCoherent}
+use Rattle.hare_typed.specs.Settled.{HasBase, HasBases, HaveBases}
 use Rattle.hare_const.proofs.LaterTypes.{known_base, base_row_same, row_same, cells_same, number_same, int_same, sized, size_same, align_same, part_same, made_same, has_parts, named_same, fields_same, reached_same}
 use Rattle.hare_const.proofs.SizeLemmas.{starts}
 use Rattle.hare_const.proofs.PartLemmas.{type_with_parts}

@@ -12,11 +12,14 @@ use Rattle.hare_typed.specs.ConstantValues.{constant_result}
 use Rattle.hare_typed.specs.Folded.{tagged_by_id, inconstant, folded, folded_from}
 use Rattle.hare_const.specs.declared.outcome.Outcome.{Outcome}
 use Rattle.hare_const.specs.declared.outcome.Outcome.TheVariants.{Known, Aborts, Undefined}
-use Rattle.hare_const.specs.Joined.{Joins}
-use Rattle.hare_const.specs.NodeValues.{on_cells, operands_of, own_value, coerced_value, tree_value, kid_values, IsSimple, AreSimple, is_aborted, first_refused, cells_in, cells_of}
+use Rattle.hare_typed.specs.Joined.{Joins}
+use Rattle.hare_typed.specs.Settled.{IsSimple, AreSimple}
+use Rattle.hare_const.specs.NodeValues.{on_cells, operands_of, own_value, coerced_value, tree_value, kid_values, is_aborted, first_refused, cells_in, cells_of}
 use Rattle.hare_const.specs.Made.{made_by_kids, made_of_value, made_by, made_by_each}
-use Rattle.hare_const.specs.Settled.{HasBase, HasBases, HaveBases, IsSettled, ConstantsStay}
-use Rattle.hare_const.specs.Statics.{statics_in, IsCoherent, objects_in}
+use Rattle.hare_typed.specs.Settled.{HasBase, HasBases, HaveBases, IsSettled}
+use Rattle.hare_const.specs.Settled.{ConstantsStay}
+use Rattle.hare_typed.specs.Coherent.{statics_in, IsCoherent}
+use Rattle.hare_const.specs.Statics.{objects_in}
 use Rattle.hare_const.proofs.LaterNodes.{around, kind_same, cells_on, coherent_stays}
 use Rattle.hare_const.proofs.LaterUnions.{SameTags}
 use Rattle.hare_const.proofs.LaterCoercions.{coerced_same, object_same}

@@ -37,9 +37,9 @@ use Rattle.hare_typed.specs.Shapes.{shape_of_row, int_of_shape, align_in}
 use Rattle.hare_typed.specs.Followed.{pointee_or, reached_within}
 use Rattle.hare_typed.specs.Coercions.{number_of_value, number_cells, length_of_row, length_of_value}
 use Rattle.hare_typed.specs.ConstantForms.{int_in, id_in, offset_in, part_in, part_named, with_parts, made_of, fields_from}
-use Rattle.hare_const.specs.Sizes.{Fits, HasPart}
-use Rattle.hare_const.specs.NodeValues.{IsSized, HasParts}
-use Rattle.hare_const.specs.Settled.{HasBase}
+use Rattle.hare_typed.specs.Sizes.{Fits, HasPart}
+use Rattle.hare_typed.specs.Settled.{IsSized, HasParts}
+use Rattle.hare_typed.specs.Settled.{HasBase}
 use Rattle.hare_const.proofs.PartLemmas.{name_at}
 
 -- a type of the store whose base is known

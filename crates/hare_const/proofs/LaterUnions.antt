@@ -20,9 +20,9 @@ use Rattle.hare_typed.specs.Unions.{tag_shape, union_members, payload_of, tag_of
 use Rattle.hare_typed.specs.Coercions.{number_of_value, number_cells, chosen_member, row_to, inner_as, inner_to, element_of_slice, element_by, coerced_by, union_to_union, coerced_as, coerced_to_union}
 use Rattle.hare_assign.proofs.ChoiceLemmas.{firsts_stay}
 use Rattle.hare_assign.specs.Growth.{IsOneFirst}
-use Rattle.hare_const.specs.Sizes.{Fits}
-use Rattle.hare_const.specs.Joined.{AreTold, IsToldUnion, HasToldUnion, IsJoined, Joins}
-use Rattle.hare_const.specs.Settled.{HasBase}
+use Rattle.hare_typed.specs.Sizes.{Fits}
+use Rattle.hare_typed.specs.Joined.{AreTold, IsToldUnion, HasToldUnion, IsJoined, Joins}
+use Rattle.hare_typed.specs.Settled.{HasBase}
 use Rattle.hare_const.proofs.LaterTypes.{keeps, in_store, has_base, base_row_same, number_same, cells_same, fits}
 use Rattle.hare_const.proofs.JoinedLemmas.{chosen_choice, row_in, row_coerced, told_found, told_chosen, known}
 

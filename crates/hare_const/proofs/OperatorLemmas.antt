@@ -14,7 +14,8 @@ use Rattle.hare_typed.proofs.ScalarLemmas.{wrap-residue}
 use Rattle.hare_const.specs.declared.operators.IntType.{IntType}
 use Rattle.hare_const.specs.declared.operators.Shift.{Shift}
 use Rattle.hare_const.specs.declared.operators.Shift.TheVariants as way
-use Rattle.hare_const.specs.Operators.{int_of, shift_of, IsWhole, IsWidth}
+use Rattle.hare_typed.specs.Settled.{IsWidth}
+use Rattle.hare_const.specs.Operators.{int_of, shift_of, IsWhole}
 
 -- ---- within 128 bits
 

@@ -20,7 +20,8 @@ use Rattle.hare_types.specs.declared.coercion.Ty.{Ty}
 use Rattle.hare_const.specs.declared.outcome.Outcome.{Outcome}
 use Rattle.hare_const.specs.declared.outcome.Outcome.TheVariants.{Known}
 use Rattle.hare_const.specs.declared.placing.Part.{Part}
-use Rattle.hare_const.specs.NodeValues.{on_cells, kid_at, kids_at, HasParts, type_with_offset}
+use Rattle.hare_typed.specs.Settled.{HasParts, type_with_offset}
+use Rattle.hare_const.specs.NodeValues.{on_cells, kid_at, kids_at}
 use Rattle.hare_const.specs.Placing.{cells_of, cells_in, placed}
 use Rattle.hare_const.proofs.NodeLemmas.{kid-found, kid-missing}
 use Rattle.hare_const.proofs.PlacingLemmas.{placed_push}

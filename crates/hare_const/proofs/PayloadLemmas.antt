@@ -17,8 +17,8 @@ use Rattle.hare_typed.specs.Words.{number_in, natural_of}
 use Rattle.hare_typed.specs.Folded.{tagged_by_id}
 use Rattle.hare_typed.specs.Unions.{tag_shape, union_members, has_tag, is_number, member_tagged, member_by_tag, checked_by, checked, payload}
 use Rattle.hare_const.specs.Numbers.{number_of_scalar, number_by}
-use Rattle.hare_const.specs.Joined.{AreTold, IsToldUnion}
-use Rattle.hare_const.specs.Sizes.{Fits}
+use Rattle.hare_typed.specs.Joined.{AreTold, IsToldUnion}
+use Rattle.hare_typed.specs.Sizes.{Fits}
 use Rattle.hare_const.proofs.JoinedLemmas.{told_found}
 use Rattle.hare_const.proofs.LaterUnions.{members_same, payload_cells}
 use Rattle.hare_const.proofs.Tagged.{tagged_later, tag_by_id}

@@ -7,7 +7,8 @@ use Rattle.hare_typed.specs.Typed.{TypedNode, TypedNodes, marked, typed_nodes, m
 use Rattle.hare_typed.specs.Constants.{own_kind}
 use Rattle.hare_typed.specs.Constancy.{is_constant, hides_kids, or_else, first_inconstant, first_inconstant_of}
 use Rattle.hare_typed.proofs.ExitLemmas.{drop-get}
-use Rattle.hare_const.specs.Settled.{IsSettled, AreSettled, IsFound, AreFound}
+use Rattle.hare_typed.specs.Settled.{IsSettled, AreSettled}
+use Rattle.hare_const.specs.Settled.{IsFound, AreFound}
 use Rattle.hare_const.proofs.SettledLemmas.{settled_at}
 
 -- one is found in the tree, or among some

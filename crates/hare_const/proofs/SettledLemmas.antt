@@ -20,9 +20,9 @@ use Rattle.hare_typed.specs.Constants.{own_kind, is_known}
 use Rattle.hare_typed.specs.Constancy.{names_void, is_global_path}
 use Rattle.hare_typed.specs.Evaluated.{is_named, is_place_kind, first_is_place}
 use Rattle.hare_typed.specs.ConstantForms.{own_type, part_named, counted_from, fields_from}
-use Rattle.hare_const.specs.Sizes.{Fits, HasPart, parts_in}
-use Rattle.hare_const.specs.NodeValues.{HasParts, components_given, fields_given, AreSimple}
-use Rattle.hare_const.specs.Settled.{HaveBases, IsSettled, IsSettledNode, AreSettled}
+use Rattle.hare_typed.specs.Sizes.{Fits, HasPart, parts_in}
+use Rattle.hare_typed.specs.Settled.{HasParts, components_given, fields_given, AreSimple}
+use Rattle.hare_typed.specs.Settled.{HaveBases, IsSettled, IsSettledNode, AreSettled}
 use Rattle.hare_const.proofs.SizeLemmas.{starts, has_part}
 use Rattle.hare_const.proofs.LaterTypes.{in_store}
 use Rattle.hare_const.proofs.Shown.Trees.{global_meaning}

@@ -14,7 +14,7 @@ use Rattle.hare_layout.specs.Whole.{FieldsLieIn}
 use Rattle.hare_layout.proofs.PlacesLemmas.{fields_lie_in}
 use Rattle.hare_typed.specs.Given.{base_row}
 use Rattle.hare_typed.specs.ConstantForms.{offset_in}
-use Rattle.hare_const.specs.Sizes.{Fits, HasPart, parts_in, IsFew, AreFew, IsModest}
+use Rattle.hare_typed.specs.Sizes.{Fits, HasPart, parts_in, IsFew, AreFew, IsModest}
 
 -- ---- what is told of an extent
 

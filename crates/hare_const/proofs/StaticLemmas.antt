@@ -21,9 +21,10 @@ use Rattle.hare_typed.specs.State.{Result, Value}
 use Rattle.hare_typed.specs.ConstantValues.{constant_object, listed_objects, objects_of, text_object, statics, statics_of_each, constant_result}
 use Rattle.hare_typed.specs.Folded.{leads, cells_named, cells_of_named, reached_in, with_cells_of, objects_behind, tagged_by_id, folded_from, folded, inconstant}
 use Rattle.hare_const.specs.NodeValues.{cells_in}
-use Rattle.hare_const.specs.Settled.{IsSettled}
-use Rattle.hare_const.specs.Texts.{cells_found}
-use Rattle.hare_const.specs.Statics.{scope_in, held, statics_in, statics_in_each, IsCoherent, objects_in, objects_led_to, cells_by, reached_by, listed_by}
+use Rattle.hare_typed.specs.Settled.{IsSettled}
+use Rattle.hare_typed.specs.Texts.{cells_found}
+use Rattle.hare_typed.specs.Coherent.{scope_in, held, statics_in, statics_in_each, IsCoherent}
+use Rattle.hare_const.specs.Statics.{objects_in, objects_led_to, cells_by, reached_by, listed_by}
 use Rattle.hare_const.proofs.Shown.Trees.{plain_from}
 use Rattle.hare_const.proofs.LaterNodes.{coherent_stays}
 use Rattle.hare_const.proofs.Tagged.{tagged_later, tagged_settled, constant_there}

@@ -27,9 +27,10 @@ use Rattle.hare_typed.specs.Folded.{tagged_by_id, aborts, inconstant, folded_fro
 use Rattle.hare_const.specs.declared.outcome.Outcome.{Outcome}
 use Rattle.hare_const.specs.declared.outcome.Outcome.TheVariants.{Known}
 use Rattle.hare_const.specs.Made.{own_object, made_of_value, made_of_node}
-use Rattle.hare_const.specs.NodeValues.{on_cells, own_value, coerced_value, node_value, AskedKind, tree_value, IsPlain, IsSimple, AreSimple, is_aborted, first_refused, Refuses, cells_in, cells_of}
-use Rattle.hare_const.specs.Settled.{HasBases, HaveBases, IsSettled}
-use Rattle.hare_const.specs.Statics.{IsCoherent}
+use Rattle.hare_typed.specs.Settled.{AskedKind, IsPlain, IsSimple, AreSimple}
+use Rattle.hare_const.specs.NodeValues.{on_cells, own_value, coerced_value, node_value, tree_value, is_aborted, first_refused, Refuses, cells_in, cells_of}
+use Rattle.hare_typed.specs.Settled.{HasBases, HaveBases, IsSettled}
+use Rattle.hare_typed.specs.Coherent.{IsCoherent}
 use Rattle.hare_const.proofs.LaterTypes.{has_base, in_store}
 use Rattle.hare_const.proofs.LaterNodes.{around, kind_same, first-base, simple_stays, plain_stays, coherent_stays, constant_same}
 use Rattle.hare_const.proofs.LaterUnions.{SameTags, joins_stay}

@@ -18,8 +18,8 @@ use Rattle.hare_typed.specs.Answers.{Answer, Gives, Aborts, IsUndefined}
 use Rattle.hare_typed.specs.Scalars.{Pointer, Null, Address}
 use Rattle.hare_typed.specs.Words.{Words}
 use Rattle.hare_const.specs.Numbers.{byte_in}
-use Rattle.hare_const.specs.Texts.{cells_found, AreCoherent, bytes_behind, bytes_at, text_of_words, text_of, text_of_kid}
-use Rattle.hare_const.specs.Statics.{compares_texts, compares_texts_each}
+use Rattle.hare_typed.specs.Texts.{cells_found, AreCoherent, bytes_behind, bytes_at, text_of_words, text_of, text_of_kid}
+use Rattle.hare_typed.specs.Coherent.{compares_texts, compares_texts_each}
 
 -- ---- objects
 

@@ -9,8 +9,8 @@ use Rattle.hare_types.specs.declared.row.Row.TheVariants as row
 use Rattle.hare_types.specs.ByIds.{row_at, base_at, members_of, members_at}
 use Rattle.hare_typed.specs.Given.{base_row}
 use Rattle.hare_assign.specs.Chosen.{first_choice}
-use Rattle.hare_const.specs.Joined.{AreTold, IsToldUnion, HasToldUnion, IsJoined}
-use Rattle.hare_const.specs.Sizes.{Fits}
+use Rattle.hare_typed.specs.Joined.{AreTold, IsToldUnion, HasToldUnion, IsJoined}
+use Rattle.hare_typed.specs.Sizes.{Fits}
 use Rattle.hare_const.proofs.JoinedLemmas.{chosen_choice}
 
 drop-next : (ts : List ℕ) (k x : ℕ) → k < length ts → x ≡ get_or ts k x → drop k ts ≡ x ∷ drop (suc k) ts

@@ -15,7 +15,7 @@ use Rattle.hare_types.specs.Store.{Store}
 use Rattle.hare_types.specs.declared.extent.Extent.{Extent}
 use Rattle.hare_types.specs.ByIds.{members_at, payload_at, size_at, align_at}
 use Rattle.hare_layout.proofs.PlacesLemmas.{payload-align}
-use Rattle.hare_const.specs.Sizes.{Fits}
+use Rattle.hare_typed.specs.Sizes.{Fits}
 
 -- ---- undefined cells
 

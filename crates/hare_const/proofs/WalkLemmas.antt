@@ -20,8 +20,9 @@ use Rattle.hare_typed.specs.Evaluated.{is_evaluated}
 use Rattle.hare_typed.proofs.KidLemmas.{take-get}
 use Rattle.hare_const.specs.declared.outcome.Outcome.{Outcome}
 use Rattle.hare_const.specs.declared.outcome.Outcome.TheVariants.{Known}
-use Rattle.hare_const.specs.NodeValues.{on_cells, kind_value, own_value, coerced_value, node_value, tree_value, kid_values, is_aborted, first_refused, first_refused_of, Refuses, is_constant_node, RefusesNode, AskedKind, IsSimple, AreSimple}
-use Rattle.hare_const.specs.Settled.{HaveBases, IsSettled, AreSettled}
+use Rattle.hare_typed.specs.Settled.{AskedKind, IsSimple, AreSimple}
+use Rattle.hare_const.specs.NodeValues.{on_cells, kind_value, own_value, coerced_value, node_value, tree_value, kid_values, is_aborted, first_refused, first_refused_of, Refuses, is_constant_node, RefusesNode}
+use Rattle.hare_typed.specs.Settled.{HaveBases, IsSettled, AreSettled}
 use Rattle.hare_const.proofs.Shown.Trees.{type-idle, first-none, both-none}
 
 -- ---- a node

@@ -3,9 +3,6 @@ pub mod Numbers
 pub mod Operators
 pub mod Lengths
 pub mod Covering
-pub mod Sizes
-pub mod Joined
-pub mod Texts
 pub mod NodeValues
 pub mod Coerced
 pub mod Made

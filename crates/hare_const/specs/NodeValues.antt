@@ -1,7 +1,6 @@
 -- The value of a typed tree, where no program runs: each kind of which constants are made gives it from the values of its kids, and an
 -- equality of texts from their bytes.
-use Rattle.std.specs.List.{All}
-use Rattle.std.specs.Prelude.{◌≡◌, ◌<◌, ℕ, zero, suc, ◌+◌, ◌-◌, ◌*◌, ◌^◌, pos, ℤ, Bool, true, false, not, ◌&&◌, bytes_eq, codes, List, [], ◌∷◌, ◌++◌, length, Option, Some, None, is_some, option_and_then, if◌then◌else◌}
+use Rattle.std.specs.Prelude.{◌≡◌, ℕ, zero, suc, ◌+◌, ◌-◌, ◌*◌, ◌^◌, pos, ℤ, Bool, true, false, not, ◌&&◌, bytes_eq, codes, List, [], ◌∷◌, ◌++◌, length, Option, Some, None, is_some, option_and_then, if◌then◌else◌}
 use Rattle.hare_tree.specs.declared.kind.Kind.{Kind}
 use Rattle.hare_tree.specs.declared.kind.Kind.TheVariants as kind
 use Rattle.hare_tree.specs.declared.place.Fault.{Fault}
@@ -12,15 +11,14 @@ use Rattle.hare_tree.specs.declared.token.Meaning.TheVariants as meant
 use Rattle.hare_types.specs.declared.coercion.Ty.{Ty}
 use Rattle.hare_types.specs.declared.coercion.Ty.TheVariants as kept
 use Rattle.hare_types.specs.Store.{Store}
-use Rattle.hare_types.specs.Assign.{IsIn}
 use Rattle.hare_typed.specs.declared.cell.Cell.{Cell}
 use Rattle.hare_typed.specs.declared.constant.Const.{Const}
 use Rattle.hare_typed.specs.declared.constant.Const.TheVariants as constant
 use Rattle.hare_typed.specs.Typed.{TypedNode, TypedNodes, marked, typed_none, typed_more, head_of, mark_of, kids_of}
 use Rattle.hare_typed.specs.Order.{kid_from_front}
 use Rattle.hare_typed.specs.Constants.{own_kind}
-use Rattle.hare_typed.specs.Given.{base_row, first_given, is_str, size_in}
-use Rattle.hare_typed.specs.Constancy.{begins_with_global, is_constant, first_inconstant, first_inconstant_of}
+use Rattle.hare_typed.specs.Given.{base_row, is_str, size_in}
+use Rattle.hare_typed.specs.Constancy.{is_constant, first_inconstant, first_inconstant_of}
 use Rattle.hare_typed.specs.Weight.{items_of}
 use Rattle.hare_typed.specs.Cells.{undefined_cells}
 use Rattle.hare_typed.specs.Repeats.{again}
@@ -30,15 +28,12 @@ use Rattle.hare_typed.specs.Arithmetic.{arithmetic_of, shift_of, order_of, logic
 use Rattle.hare_typed.specs.Shapes.{shape_of_row, align_in}
 use Rattle.hare_typed.specs.Words.{three, words}
 use Rattle.hare_typed.specs.Coercions.{element_of_slice, number_of_value, number_cells, length_of_value, length_of_row, sliced_element, coerced}
-use Rattle.hare_typed.specs.Followed.{reached_type}
-use Rattle.hare_typed.specs.Evaluated.{is_evaluated, first_is_place}
-use Rattle.hare_typed.specs.ConstantForms.{own_type, type_of_kid, is_iconst, int_in, bool_cells, truth, is_whole, cast_cells, offset_in, part_named, made_of, counted_from, fields_from, joined, last_of, repeats, is_array_row}
+use Rattle.hare_typed.specs.Evaluated.{is_evaluated}
+use Rattle.hare_typed.specs.ConstantForms.{own_type, type_of_kid, is_iconst, int_in, bool_cells, truth, is_whole, cast_cells, offset_in, made_of, counted_from, fields_from, joined, last_of, repeats, is_array_row}
 use Rattle.hare_typed.specs.ConstantValues.{without_run}
 use Rattle.hare_typed.specs.Folded.{tagged_by_id}
-use Rattle.hare_const.specs.Joined.{Joins}
-use Rattle.hare_const.specs.Operators.{IsWidth}
-use Rattle.hare_const.specs.Sizes.{Fits, HasPart}
-use Rattle.hare_const.specs.Texts.{text_of_kid, bytes_told, AreTexts}
+use Rattle.hare_typed.specs.Texts.{text_of_kid, bytes_told}
+use Rattle.hare_typed.specs.Settled.{type_with_offset, part_with_offset}
 use Rattle.hare_const.specs.declared.operands.Operands.{Operands}
 use Rattle.hare_const.specs.declared.operands.Operands.TheVariants.{NoKid, OneKid, TwoKids, RightIfOpen, Components, Fields, Elements}
 use Rattle.hare_const.specs.declared.outcome.Outcome.{Outcome}
@@ -169,13 +164,6 @@ struct_value s t cs = made_of s (own_type t) (fields_from s (own_type t) 1 (item
 -- a value of so many cells, of which these are known: the others are undefined
 abbrev pub filled : ℕ → List Cell → List Cell
 filled n cs = cs ++ undefined_cells (n - length cs)
-
--- the type in which the field stands whose offset is asked for, and which of its parts the field is
-abbrev pub type_with_offset : Store → TypedNode → Ty
-type_with_offset s t = reached_type s (type_of_kid 0 (kid_from_front 0 t))
-
-abbrev pub part_with_offset : Store → TypedNode → ℕ
-part_with_offset s t = part_named s (type_with_offset s t) (head_of (kid_from_front 0 t))
 
 -- where the field begins that the kid names
 abbrev pub offset_value : Store → TypedNode → List Cell
@@ -309,79 +297,6 @@ abbrev mutual
   pub kid_values : Store → (own : ℕ) → TypedNodes → List Outcome
   kid_values s own typed_none = []
   kid_values s own (typed_more t ts) = tree_value s own t ∷ kid_values s own ts
-
--- ---- which trees are meant
-
--- where a type has a size, it is one that can be told
-abbrev pub IsSized : Store → Ty → Type 0
-IsSized s (kept.Of t) = Fits s t
-IsSized s (kept.Iconst v) = Unit {0}
-IsSized s kept.Null = Unit {0}
-IsSized s kept.Empty = Unit {0}
-
--- an operator on a number gives one of so many bits, and its operand has a type; or it has no type itself, and no cells
-abbrev pub HasNumber : Store → TypedNode → Type 0
-HasNumber s t = is_iconst (own_type t) ≡ false → IsWidth (int_in s (own_type t)).bits × (is_iconst (type_of_kid 0 t) ≡ false)
-
--- the same of arithmetic on two numbers; by how much is shifted may be a number without a type
-abbrev pub HasNumbers : Store → TypedNode → Type 0
-HasNumbers s t = HasNumber s t × (is_iconst (own_type t) ≡ false → is_iconst (type_of_kid 1 t) ≡ false)
-
--- the texts that an equality compares are told, unless a node of its operands is of no constant kind; and a global whose address is taken
--- is a place
-abbrev pub PlainKind : Store → Kind → TypedNodes → Type 0
-PlainKind s kind.Equal ts = is_str s (first_given ts) ≡ true → first_inconstant_of s (λ u. false) ts ≡ None → AreTexts s ts
-PlainKind s kind.Addr ts = begins_with_global ts ≡ true → first_is_place s ts ≡ true
-PlainKind s _ ts = Unit {0}
-
--- the same of each node of the tree
-abbrev mutual
-  pub IsPlain : Store → TypedNode → Type 0
-  IsPlain s (marked h m ts) = PlainKind s h.kind ts × ArePlain s ts
-
-  pub ArePlain : Store → TypedNodes → Type 0
-  ArePlain s typed_none = Unit {0}
-  ArePlain s (typed_more t ts) = IsPlain s t × ArePlain s ts
-
--- the type is a struct or tuple whose size can be told, and has these parts
-abbrev pub HasParts : Store → Ty → List ℕ → Type 0
-HasParts s (kept.Of f) ns = Fits s f × All (HasPart s f) ns
-HasParts s (kept.Iconst v) ns = ⊥
-HasParts s kept.Null ns = ⊥
-HasParts s kept.Empty ns = ⊥
-
--- which components a tuple gives, and which fields a struct, in the order in which they are written
-abbrev pub components_given : TypedNode → List ℕ
-components_given t = counted_from 0 (items_of kind.Tuple (kids_of t))
-
-abbrev pub fields_given : Store → TypedNode → List ℕ
-fields_given s t = fields_from s (own_type t) 1 (items_of kind.StructLit (kids_of t)) t
-
--- what is asked of a node, which each node that meets its rules has
-abbrev pub AskedKind : Store → TypedNode → Kind → Type 0
-AskedKind s t kind.Number = (head_of t).number < 2 ^ 127
-AskedKind s t kind.RuneLit = (head_of t).number < 2 ^ 127
-AskedKind s t kind.Neg = HasNumber s t
-AskedKind s t kind.Not = HasNumber s t
-AskedKind s t kind.Arith = HasNumbers s t
-AskedKind s t kind.Shift = HasNumber s t
-AskedKind s t kind.Size = IsSized s (type_of_kid 0 t)
-AskedKind s t kind.Align = IsSized s (type_of_kid 0 t)
-AskedKind s t kind.Tuple = HasParts s (own_type t) (components_given t)
-AskedKind s t kind.StructLit = HasParts s (own_type t) (fields_given s t)
-AskedKind s t kind.Offset = HasParts s (type_with_offset s t) (part_with_offset s t ∷ [])
-AskedKind s t _ = Unit {0}
-
--- The texts that the tree compares are told; its types are those of the store, and of the unions to which its values go all is known of
--- which these are made.
-abbrev mutual
-  pub IsSimple : Store → TypedNode → Type 0
-  IsSimple s (marked h m ts) =
-      AskedKind s (marked h m ts) h.kind × PlainKind s h.kind ts × IsIn s m.ty × Joins s m.ty m.coerce.row m.coerce.to × AreSimple s ts
-
-  pub AreSimple : Store → TypedNodes → Type 0
-  AreSimple s typed_none = Unit {0}
-  AreSimple s (typed_more t ts) = IsSimple s t × AreSimple s ts
 
 -- ---- what is not constant
 

@@ -1,5 +1,5 @@
 -- The operators of constants as the crate has them, and the numbers that they are given.
-use Rattle.std.specs.Prelude.{ℕ, ℤ, ◌^◌, pos, neg_ℤ, ◌≤ℤ◌, ◌<ℤ◌, ◌≤◌, Option, Some, None}
+use Rattle.std.specs.Prelude.{ℤ, ◌^◌, pos, neg_ℤ, ◌≤ℤ◌, ◌<ℤ◌, ◌≤◌, Option, Some, None}
 use Rattle.hare_typed.specs.Arithmetic as spec
 use Rattle.hare_typed.specs.Answers.{Answer, Gives, Aborts}
 use Rattle.hare_const.specs.declared.operators.IntType.{IntType}
@@ -49,8 +49,3 @@ answer_of (Some v) = Gives v
 pub record IsWhole (v : ℤ) : Type 0 where
   pub low : neg_ℤ (pos (2 ^ 63)) ≤ℤ v
   pub high : v <ℤ pos (2 ^ 64)
-
--- as many bits as some integer type has
-pub record IsWidth (bits : ℕ) : Type 0 where
-  pub some : 1 ≤ bits
-  pub few : bits ≤ 64

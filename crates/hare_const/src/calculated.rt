@@ -6,8 +6,10 @@ ghost use Rattle.hare_typed.specs.Arithmetic as arithmetic;
 ghost use Rattle.hare_typed.specs.Shapes as shapes;
 ghost use Rattle.hare_typed.specs.Coercions.{number_of_value as number_of_cells, number_cells as cells_of_number};
 ghost use Rattle.hare_typed.specs.ConstantForms.{is_iconst, truth as holds, type_of_kid as kid_type};
-ghost use Rattle.hare_const.specs.Operators.{int_of, IsWhole, IsWidth};
+ghost use Rattle.hare_typed.specs.Settled.{IsWidth};
+ghost use Rattle.hare_const.specs.Operators.{int_of, IsWhole};
 ghost use Rattle.hare_const.specs.NodeValues as spec;
+ghost use Rattle.hare_typed.specs.Settled as asked;
 
 use crate::kids::type_of_kid;
 use crate::literals::bool_cells;
@@ -70,7 +72,7 @@ pub(crate) fn negation(
     t: &Typed,
     cells: &Cells,
 ) -> Result<Cells, AllocError>
-    requires { spec.HasNumber s.now t.now }
+    requires { asked.HasNumber s.now t.now }
     ensures { IfOk result (λ cs. cs ≡ spec.negation s.now t.now cells.now) }
 {
     let Ty::Of(of) = t.ty else {
@@ -87,7 +89,7 @@ pub(crate) fn complement(
     t: &Typed,
     cells: &Cells,
 ) -> Result<Cells, AllocError>
-    requires { spec.HasNumber s.now t.now }
+    requires { asked.HasNumber s.now t.now }
     ensures { IfOk result (λ cs. cs ≡ spec.complement s.now t.now cells.now) }
 {
     let Ty::Of(of) = t.ty else {
@@ -105,7 +107,7 @@ pub(crate) fn arithmetic_value(
     left: &Cells,
     right: &Cells,
 ) -> Result<Outcome, AllocError>
-    requires { spec.HasNumbers s.now t.now }
+    requires { asked.HasNumbers s.now t.now }
     ensures { IfOk result (λ o. o ≡ spec.arithmetic_value s.now t.now left.now right.now) }
 {
     let Ty::Of(of) = t.ty else {
@@ -127,7 +129,7 @@ pub(crate) fn shift_value(
     left: &Cells,
     right: &Cells,
 ) -> Result<Cells, AllocError>
-    requires { spec.HasNumber s.now t.now }
+    requires { asked.HasNumber s.now t.now }
     ensures { IfOk result (λ cs. cs ≡ spec.shift_value s.now t.now left.now right.now) }
 {
     let Ty::Of(of) = t.ty else {

@@ -10,10 +10,10 @@ ghost use Rattle.hare_typed.specs.Coercions.{chosen_member};
 ghost use Rattle.hare_typed.specs.ConstantForms.{own_type};
 ghost use Rattle.hare_const.specs.declared.outcome.Outcome.TheVariants.{Known};
 ghost use Rattle.hare_const.specs.Coerced as coerced;
-ghost use Rattle.hare_const.specs.Joined.{IsJoined, Joins};
+ghost use Rattle.hare_typed.specs.Joined.{IsJoined, Joins};
 ghost use Rattle.hare_const.specs.NodeValues as spec;
 ghost use Rattle.hare_const.specs.Made.{own_object};
-ghost use Rattle.hare_const.specs.Settled.{HasBase};
+ghost use Rattle.hare_typed.specs.Settled.{HasBase};
 
 use crate::addresses::{null_cells, object_number, slice_of};
 use crate::joined::TO_UNION;

@@ -3,8 +3,8 @@
 ghost use Rattle.std.specs.Prelude.{◌≡◌, ◌↔◌, ◌-◌, ◌<◌, ◌^◌, IsTrue, IfOk};
 ghost use Rattle.hare_typed.specs.Typed.{typed_nodes, kids_of};
 ghost use Rattle.hare_typed.specs.Constants.{own_kind};
-ghost use Rattle.hare_const.specs.Statics as spec;
-ghost use Rattle.hare_const.specs.Texts.{AreCoherent};
+ghost use Rattle.hare_typed.specs.Coherent as spec;
+ghost use Rattle.hare_typed.specs.Texts.{AreCoherent};
 
 use crate::kids::first_given;
 use crate::shape::is_str;

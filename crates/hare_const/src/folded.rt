@@ -6,8 +6,8 @@ ghost use Rattle.hare_types.specs.Later.{IsLater};
 ghost use Rattle.hare_typed.specs.Folded.{tagged_by_id, folded, inconstant};
 ghost use Rattle.hare_const.specs.Made.{made_by};
 ghost use Rattle.hare_const.specs.NodeValues as spec;
-ghost use Rattle.hare_const.specs.Settled.{IsSettled};
-ghost use Rattle.hare_const.specs.Statics.{IsCoherent};
+ghost use Rattle.hare_typed.specs.Settled.{IsSettled};
+ghost use Rattle.hare_typed.specs.Coherent.{IsCoherent};
 
 use crate::coherent::is_coherent;
 use crate::outcome::Outcome;

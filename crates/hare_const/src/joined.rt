@@ -4,8 +4,8 @@ ghost use Rattle.std.specs.Prelude.{IsTrue, ◌↔◌};
 ghost use Rattle.hare_types.specs.declared.coercion.Ty.TheVariants as ty;
 ghost use Rattle.hare_typed.specs.Typed.{mark_of};
 ghost use Rattle.hare_typed.specs.ConstantForms.{own_type};
-ghost use Rattle.hare_const.specs.Joined as spec;
-ghost use Rattle.hare_const.specs.Settled.{HasBase};
+ghost use Rattle.hare_typed.specs.Joined as spec;
+ghost use Rattle.hare_typed.specs.Settled.{HasBase};
 
 use crate::shape::base_row;
 use crate::sizes::fits;

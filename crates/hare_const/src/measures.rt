@@ -10,6 +10,7 @@ ghost use Rattle.hare_types.specs.declared.coercion.Ty.TheVariants as ty;
 ghost use Rattle.hare_types.specs.Assign.{IsIn};
 ghost use Rattle.hare_const.specs.declared.outcome.Outcome.TheVariants.{Known};
 ghost use Rattle.hare_const.specs.NodeValues as spec;
+ghost use Rattle.hare_typed.specs.Settled as asked;
 
 use crate::kids::type_of_kid;
 use crate::number::number_cells;
@@ -26,7 +27,7 @@ const MOST_POINTERS: u64 = 16;
 
 /// The size of a type in bytes; none of what has no type yet.
 fn size_in(s: &TypeStore, t: Ty) -> u64
-    requires { spec.IsSized s.now t }
+    requires { asked.IsSized s.now t }
     ensures { result ≡ size_of_type s.now t }
 {
     match t {
@@ -37,7 +38,7 @@ fn size_in(s: &TypeStore, t: Ty) -> u64
 
 /// Of what the address of a value of the type is a multiple.
 fn align_in(s: &TypeStore, t: Ty) -> u64
-    requires { spec.IsSized s.now t }
+    requires { asked.IsSized s.now t }
     ensures { result ≡ align_of_type s.now t }
 {
     match t {
@@ -48,7 +49,7 @@ fn align_in(s: &TypeStore, t: Ty) -> u64
 
 /// The value of `size(..)`.
 pub(crate) fn size_value(alloc: Global, s: &TypeStore, t: &Typed) -> Result<Cells, AllocError>
-    requires { spec.IsSized s.now (kid_type 0 t.now) }
+    requires { asked.IsSized s.now (kid_type 0 t.now) }
     ensures { IfOk result (λ cells. cells ≡ spec.size_value s.now t.now) }
 {
     number_cells(alloc, s, t.ty, i128::from(size_in(s, type_of_kid(t, 0))))
@@ -56,7 +57,7 @@ pub(crate) fn size_value(alloc: Global, s: &TypeStore, t: &Typed) -> Result<Cell
 
 /// The value of `align(..)`.
 pub(crate) fn align_value(alloc: Global, s: &TypeStore, t: &Typed) -> Result<Cells, AllocError>
-    requires { spec.IsSized s.now (kid_type 0 t.now) }
+    requires { asked.IsSized s.now (kid_type 0 t.now) }
     ensures { IfOk result (λ cells. cells ≡ spec.align_value s.now t.now) }
 {
     number_cells(alloc, s, t.ty, i128::from(align_in(s, type_of_kid(t, 0))))
@@ -88,7 +89,7 @@ fn reached_within(s: &TypeStore, t: Ty, most: u64) -> Ty
 
 /// The type in which the field stands that an `offset(..)` names.
 pub(crate) fn type_with_offset(s: &TypeStore, t: &Typed) -> Ty
-    ensures { result ≡ spec.type_with_offset s.now t.now }
+    ensures { result ≡ asked.type_with_offset s.now t.now }
 {
     match t.kids.get(0) {
         Some(field) => reached_within(s, type_of_kid(field, 0), MOST_POINTERS),
@@ -98,8 +99,8 @@ pub(crate) fn type_with_offset(s: &TypeStore, t: &Typed) -> Ty
 
 /// Which part of that type the field is.
 pub(crate) fn part_with_offset(s: &TypeStore, whole: TypeId, t: &Typed) -> u128
-    requires { spec.type_with_offset s.now t.now ≡ ty.Of whole }
-    ensures { result ≡ spec.part_with_offset s.now t.now }
+    requires { asked.type_with_offset s.now t.now ≡ ty.Of whole }
+    ensures { result ≡ asked.part_with_offset s.now t.now }
 {
     match t.kids.get(0) {
         Some(field) => part_named(s, whole, field),
@@ -109,7 +110,7 @@ pub(crate) fn part_with_offset(s: &TypeStore, whole: TypeId, t: &Typed) -> u128
 
 /// The value of `offset(..)`: of the node within it only the type and the name count.
 pub(crate) fn offset_value(alloc: Global, s: &TypeStore, t: &Typed) -> Result<Cells, AllocError>
-    requires { spec.HasParts s.now (spec.type_with_offset s.now t.now) (spec.part_with_offset s.now t.now ∷ []) }
+    requires { asked.HasParts s.now (asked.type_with_offset s.now t.now) (asked.part_with_offset s.now t.now ∷ []) }
     ensures { IfOk result (λ cells. cells ≡ spec.offset_value s.now t.now) }
 {
     let Ty::Of(whole) = type_with_offset(s, t) else {

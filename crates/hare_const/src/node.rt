@@ -6,8 +6,9 @@ ghost use Rattle.hare_typed.specs.Constants.{own_kind};
 ghost use Rattle.hare_typed.specs.Evaluated.{is_evaluated as evaluated};
 ghost use Rattle.hare_const.specs.declared.outcome.Outcome.TheVariants.{Known};
 ghost use Rattle.hare_const.specs.NodeValues as spec;
+ghost use Rattle.hare_typed.specs.Settled as asked;
 ghost use Rattle.hare_const.specs.Made.{made_of_node};
-ghost use Rattle.hare_const.specs.Settled.{IsSettled};
+ghost use Rattle.hare_typed.specs.Settled.{IsSettled};
 
 use crate::addresses::{address_value, literal_text};
 use crate::array::array_value;
@@ -32,7 +33,7 @@ use std::alloc::{AllocError, Global};
 /// The value of a node that is made of no kid's.
 fn leaf_value(alloc: Global, s: &TypeStore, own: u32, t: &Typed) -> Result<Cells, AllocError>
     requires own { own < 2 ^ 32 - 1 }
-    requires asked { spec.AskedKind s.now t.now (own_kind t.now) }
+    requires asked { asked.AskedKind s.now t.now (own_kind t.now) }
     ensures { IfOk result (λ cs. cs ≡ spec.leaf_value s.now own t.now (own_kind t.now)) }
 {
     match t.kind {
@@ -59,7 +60,7 @@ fn copied(alloc: Global, cells: &Cells) -> Result<Cells, AllocError>
 
 /// The value of a node that is made of its first kid's.
 fn unary_value(alloc: Global, s: &TypeStore, t: &Typed, cells: &Cells) -> Result<Cells, AllocError>
-    requires { spec.AskedKind s.now t.now (own_kind t.now) }
+    requires { asked.AskedKind s.now t.now (own_kind t.now) }
     ensures { IfOk result (λ cs. Known cs ≡ spec.unary_value s.now t.now (own_kind t.now) cells.now) }
 {
     match t.kind {
@@ -80,7 +81,7 @@ fn binary_value(
     left: &Cells,
     right: &Cells,
 ) -> Result<Outcome, AllocError>
-    requires { spec.AskedKind s.now t.now (own_kind t.now) }
+    requires { asked.AskedKind s.now t.now (own_kind t.now) }
     ensures { IfOk result (λ o. o ≡ spec.binary_value s.now t.now (own_kind t.now) left.now right.now) }
 {
     match t.kind {
@@ -100,7 +101,7 @@ fn operator_value(
     first: &Outcome,
     second: &Outcome,
 ) -> Result<Outcome, AllocError>
-    requires { spec.AskedKind s.now t.now (own_kind t.now) }
+    requires { asked.AskedKind s.now t.now (own_kind t.now) }
     ensures { IfOk result (λ o. o ≡ spec.operator_value s.now t.now (own_kind t.now) operands first.now second.now) }
 {
     let left = match first {
@@ -128,7 +129,7 @@ fn own_value(
     kids: &[Outcome],
 ) -> Result<Outcome, AllocError>
     requires own { own < 2 ^ 32 - 1 }
-    requires asked { spec.AskedKind s.now t.now (own_kind t.now) }
+    requires asked { asked.AskedKind s.now t.now (own_kind t.now) }
     ensures { IfOk result (λ o. o ≡ spec.own_value s.now own t.now kids.now) }
 {
     let none = Outcome::Known(Cells::new(alloc));
@@ -156,7 +157,7 @@ pub(crate) fn node_value(
     made: &mut ConstObjects,
 ) -> Result<Outcome, AllocError>
     requires own { own < 2 ^ 32 - 1 }
-    requires asked { spec.AskedKind s.now t.now (own_kind t.now) }
+    requires asked { asked.AskedKind s.now t.now (own_kind t.now) }
     requires settled { IsSettled s.now t.now }
     ensures value { IfOk result (λ o. o ≡ spec.node_value (tagged_by_id s.now) own t.now kids.now) }
     ensures made { OnOk result (made.new ≡ made.old ++ made_of_node (tagged_by_id s.now) own t.now (own_kind t.now) kids.now) }

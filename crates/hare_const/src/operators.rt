@@ -3,7 +3,8 @@
 ghost use Rattle.std.specs.Prelude.{◌≡◌, ◌<◌, ◌≤◌, ◌^◌, ◌*ℤ◌, pos, IfSome};
 ghost use Rattle.hx_base.specs.Numbers.{residue};
 ghost use Rattle.hare_typed.specs.Arithmetic as spec;
-ghost use Rattle.hare_const.specs.Operators.{int_of, arithmetic_of, shift_of, order_of, logic_of, answer_of, IsWhole, IsWidth};
+ghost use Rattle.hare_typed.specs.Settled.{IsWidth};
+ghost use Rattle.hare_const.specs.Operators.{int_of, arithmetic_of, shift_of, order_of, logic_of, answer_of, IsWhole};
 
 use hx_base::wrap;
 

@@ -10,8 +10,9 @@ ghost use Rattle.hare_typed.specs.Weight.{items_of};
 ghost use Rattle.hare_typed.specs.ConstantForms as forms;
 ghost use Rattle.hare_typed.specs.ConstantForms.{own_type};
 ghost use Rattle.hare_const.specs.declared.outcome.Outcome.TheVariants.{Known};
-ghost use Rattle.hare_const.specs.Sizes.{Fits, HasPart};
+ghost use Rattle.hare_typed.specs.Sizes.{Fits, HasPart};
 ghost use Rattle.hare_const.specs.NodeValues as spec;
+ghost use Rattle.hare_typed.specs.Settled as asked;
 
 use crate::kids::kid_at;
 use crate::outcome::Outcome;
@@ -59,7 +60,7 @@ pub(crate) fn part_named(s: &TypeStore, of: TypeId, node: &Typed) -> u128
 
 /// The components that a tuple gives.
 fn components_given(alloc: Global, t: &Typed) -> Result<Vec<u32>, AllocError>
-    ensures { IfOk result (λ ns. ns.items ≡ spec.components_given t.now) }
+    ensures { IfOk result (λ ns. ns.items ≡ asked.components_given t.now) }
 {
     let mut places = Vec::new(alloc);
     for i in 0..t.kids.len().saturating_sub(1) {
@@ -71,7 +72,7 @@ fn components_given(alloc: Global, t: &Typed) -> Result<Vec<u32>, AllocError>
 /// The fields that a struct gives, in the order in which they are written: behind the place for the type.
 fn fields_given(alloc: Global, s: &TypeStore, of: TypeId, t: &Typed) -> Result<Vec<u32>, AllocError>
     requires { own_type t.now ≡ ty.Of of }
-    ensures { IfOk result (λ ns. ns.items ≡ spec.fields_given s.now t.now) }
+    ensures { IfOk result (λ ns. ns.items ≡ asked.fields_given s.now t.now) }
 {
     let mut places = Vec::new(alloc);
     for i in 0..t.kids.len().saturating_sub(2) {
@@ -126,7 +127,7 @@ pub(crate) fn tuple_value(
     t: &Typed,
     kids: &[Outcome],
 ) -> Result<Outcome, AllocError>
-    requires { spec.HasParts s.now (own_type t.now) (spec.components_given t.now) }
+    requires { asked.HasParts s.now (own_type t.now) (asked.components_given t.now) }
     ensures { IfOk result (λ o. o ≡ spec.kids_at 0 (items_of kind.Tuple (kids_of t.now)) kids.now
         (λ cs. Known (spec.tuple_value s.now t.now cs))) }
 {
@@ -143,7 +144,7 @@ pub(crate) fn struct_value(
     t: &Typed,
     kids: &[Outcome],
 ) -> Result<Outcome, AllocError>
-    requires { spec.HasParts s.now (own_type t.now) (spec.fields_given s.now t.now) }
+    requires { asked.HasParts s.now (own_type t.now) (asked.fields_given s.now t.now) }
     ensures { IfOk result (λ o. o ≡ spec.kids_at 1 (items_of kind.StructLit (kids_of t.now)) kids.now
         (λ cs. Known (spec.struct_value s.now t.now cs))) }
 {

@@ -9,8 +9,8 @@ ghost use Rattle.hare_typed.specs.Scalars as scalars;
 ghost use Rattle.hare_typed.specs.Folded.{tagged_by_id};
 ghost use Rattle.hare_typed.specs.Unions as unions;
 ghost use Rattle.hare_typed.specs.Coercions.{union_to_union};
-ghost use Rattle.hare_const.specs.Joined.{IsToldUnion, HasToldUnion};
-ghost use Rattle.hare_const.specs.Sizes.{Fits};
+ghost use Rattle.hare_typed.specs.Joined.{IsToldUnion, HasToldUnion};
+ghost use Rattle.hare_typed.specs.Sizes.{Fits};
 
 use crate::number::{little_endian, number_at};
 use crate::shape::{Shape, base_row, shape_at};

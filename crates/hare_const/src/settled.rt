@@ -9,10 +9,10 @@ ghost use Rattle.hare_typed.specs.Constants.{own_kind};
 ghost use Rattle.hare_typed.specs.Constancy.{first_inconstant_of};
 ghost use Rattle.hare_typed.specs.ConstantForms.{own_type, int_in, is_iconst as iconst};
 ghost use Rattle.hare_typed.specs.Shapes.{int_at};
-ghost use Rattle.hare_const.specs.Operators.{IsWidth};
-ghost use Rattle.hare_const.specs.Sizes.{Fits, HasPart};
-ghost use Rattle.hare_const.specs.NodeValues as values;
-ghost use Rattle.hare_const.specs.Settled as spec;
+ghost use Rattle.hare_typed.specs.Settled.{IsWidth};
+ghost use Rattle.hare_typed.specs.Sizes.{Fits, HasPart};
+ghost use Rattle.hare_typed.specs.Settled as spec;
+ghost use Rattle.hare_const.specs.Settled.{IsFound, AreFound};
 
 use crate::constancy::{is_global_path, names_void};
 use crate::joined::joins;
@@ -60,21 +60,21 @@ fn has_width(s: &TypeStore, t: Ty) -> bool
 
 /// Whether an operator gives a number with bits, of an operand with a type; or has no type itself.
 fn has_number(s: &TypeStore, t: &Typed) -> bool
-    ensures { IsTrue result ↔ values.HasNumber s.now t.now }
+    ensures { IsTrue result ↔ spec.HasNumber s.now t.now }
 {
     is_iconst(t.ty) || (has_width(s, t.ty) && !is_iconst(type_of_kid(t, 0)))
 }
 
 /// The same of two operands.
 fn has_numbers(s: &TypeStore, t: &Typed) -> bool
-    ensures { IsTrue result ↔ values.HasNumbers s.now t.now }
+    ensures { IsTrue result ↔ spec.HasNumbers s.now t.now }
 {
     has_number(s, t) && (is_iconst(t.ty) || !is_iconst(type_of_kid(t, 1)))
 }
 
 /// Whether the size of a type can be told, where there is one.
 fn is_sized(s: &TypeStore, t: Ty) -> bool
-    ensures { IsTrue result ↔ values.IsSized s.now t }
+    ensures { IsTrue result ↔ spec.IsSized s.now t }
 {
     match t {
         Ty::Of(t) => fits(s, t),
@@ -92,7 +92,7 @@ fn has_parts(s: &TypeStore, of: TypeId, count: usize) -> bool
 
 /// Whether a tuple has a type with the components that it gives.
 fn gives_components(s: &TypeStore, t: &Typed) -> bool
-    ensures { IsTrue result ↔ values.HasParts s.now (own_type t.now) (values.components_given t.now) }
+    ensures { IsTrue result ↔ spec.HasParts s.now (own_type t.now) (spec.components_given t.now) }
 {
     match t.ty {
         Ty::Of(of) => fits(s, of) && has_parts(s, of, t.kids.len().saturating_sub(1)),
@@ -104,7 +104,7 @@ fn gives_components(s: &TypeStore, t: &Typed) -> bool
 fn has_fields(s: &TypeStore, of: TypeId, t: &Typed) -> bool
     requires fits { Fits s.now of }
     requires own { own_type t.now ≡ ty.Of of }
-    ensures { IsTrue result ↔ All (HasPart s.now of) (values.fields_given s.now t.now) }
+    ensures { IsTrue result ↔ All (HasPart s.now of) (spec.fields_given s.now t.now) }
 {
     for i in 0..t.kids.len().saturating_sub(2) {
         let Some(field) = t.kids.get(i + 1) else {
@@ -119,7 +119,7 @@ fn has_fields(s: &TypeStore, of: TypeId, t: &Typed) -> bool
 
 /// Whether a struct has a type with the fields that it gives.
 fn gives_fields(s: &TypeStore, t: &Typed) -> bool
-    ensures { IsTrue result ↔ values.HasParts s.now (own_type t.now) (values.fields_given s.now t.now) }
+    ensures { IsTrue result ↔ spec.HasParts s.now (own_type t.now) (spec.fields_given s.now t.now) }
 {
     match t.ty {
         Ty::Of(of) => fits(s, of) && has_fields(s, of, t),
@@ -129,8 +129,8 @@ fn gives_fields(s: &TypeStore, t: &Typed) -> bool
 
 /// Whether what an `offset(..)` names is a part of the type in which it stands, and the size of this can be told.
 fn has_offset_in(s: &TypeStore, whole: Ty, t: &Typed) -> bool
-    requires { values.type_with_offset s.now t.now ≡ whole }
-    ensures { IsTrue result ↔ values.HasParts s.now whole (values.part_with_offset s.now t.now ∷ []) }
+    requires { spec.type_with_offset s.now t.now ≡ whole }
+    ensures { IsTrue result ↔ spec.HasParts s.now whole (spec.part_with_offset s.now t.now ∷ []) }
 {
     match whole {
         Ty::Of(of) => fits(s, of) && has_part(s, of, part_with_offset(s, of, t)),
@@ -140,14 +140,14 @@ fn has_offset_in(s: &TypeStore, whole: Ty, t: &Typed) -> bool
 
 /// Whether what an `offset(..)` names is a part of a type whose size can be told.
 fn has_offset(s: &TypeStore, t: &Typed) -> bool
-    ensures { IsTrue result ↔ values.HasParts s.now (values.type_with_offset s.now t.now) (values.part_with_offset s.now t.now ∷ []) }
+    ensures { IsTrue result ↔ spec.HasParts s.now (spec.type_with_offset s.now t.now) (spec.part_with_offset s.now t.now ∷ []) }
 {
     has_offset_in(s, type_with_offset(s, t), t)
 }
 
 /// Whether a node has what each node of its kind has that meets its rules.
 fn is_asked_kind(s: &TypeStore, t: &Typed) -> bool
-    ensures { IsTrue result ↔ values.AskedKind s.now t.now (own_kind t.now) }
+    ensures { IsTrue result ↔ spec.AskedKind s.now t.now (own_kind t.now) }
 {
     match t.kind {
         Kind::Number | Kind::RuneLit => t.number < END_OF_NUMBERS,
@@ -164,7 +164,7 @@ fn is_asked_kind(s: &TypeStore, t: &Typed) -> bool
 /// Whether the first kid, where it is a path to a global, is a place.
 fn begins_with_place(s: &TypeStore, t: &Typed) -> bool
     requires { spec.AreSettled s.now (kids_of t.now) }
-    ensures { IsTrue result ↔ values.PlainKind s.now kind.Addr (kids_of t.now) }
+    ensures { IsTrue result ↔ spec.PlainKind s.now kind.Addr (kids_of t.now) }
 {
     let Some(kid) = t.kids.get(0) else {
         return true;
@@ -178,7 +178,7 @@ fn begins_with_place(s: &TypeStore, t: &Typed) -> bool
 /// Whether the texts are told that an equality compares, or a node of its operands is of no constant kind, which `refused` says.
 fn compares_plainly(s: &TypeStore, t: &Typed, refused: bool) -> bool
     requires { refused ≡ is_some (first_inconstant_of s.now (λ u. false) (kids_of t.now)) }
-    ensures { IsTrue result ↔ values.PlainKind s.now kind.Equal (kids_of t.now) }
+    ensures { IsTrue result ↔ spec.PlainKind s.now kind.Equal (kids_of t.now) }
 {
     if refused {
         return true;
@@ -194,7 +194,7 @@ fn compares_plainly(s: &TypeStore, t: &Typed, refused: bool) -> bool
 fn is_plain_kind(s: &TypeStore, t: &Typed, refused: bool) -> bool
     requires kids { spec.AreSettled s.now (kids_of t.now) }
     requires refused { refused ≡ is_some (first_inconstant_of s.now (λ u. false) (kids_of t.now)) }
-    ensures { IsTrue result ↔ values.PlainKind s.now (own_kind t.now) (kids_of t.now) }
+    ensures { IsTrue result ↔ spec.PlainKind s.now (own_kind t.now) (kids_of t.now) }
 {
     match t.kind {
         Kind::Equal => compares_plainly(s, t, refused),
@@ -227,7 +227,7 @@ fn either(a: bool, b: bool) -> bool
 /// Of a tree that is settled, whether one of its nodes is of no constant kind; none of another.
 #[cycle(settled)]
 fn refused_in(s: &TypeStore, t: &Typed) -> Option<bool>
-    ensures { MatchOption result (¬ spec.IsSettled s.now t.now) (spec.IsFound s.now t.now) }
+    ensures { MatchOption result (¬ spec.IsSettled s.now t.now) (IsFound s.now t.now) }
 {
     match refused_among(s, &t.kids) {
         Some(within) => {
@@ -243,7 +243,7 @@ fn refused_in(s: &TypeStore, t: &Typed) -> Option<bool>
 /// The same of some trees: none where one of them is not settled.
 #[cycle(settled)]
 fn refused_among(s: &TypeStore, kids: &TypedKids) -> Option<bool>
-    ensures { MatchOption result (¬ spec.AreSettled s.now (typed_nodes kids.now)) (spec.AreFound s.now (typed_nodes kids.now)) }
+    ensures { MatchOption result (¬ spec.AreSettled s.now (typed_nodes kids.now)) (AreFound s.now (typed_nodes kids.now)) }
 {
     let mut refused = false;
     for i in 0..kids.len() {

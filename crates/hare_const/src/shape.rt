@@ -4,7 +4,7 @@ ghost use Rattle.std.specs.Prelude.{◌≡◌, ◌≤◌, ◌↔◌, IsTrue, opt
 ghost use Rattle.hare_types.specs.declared.coercion.Ty.TheVariants as ty;
 ghost use Rattle.hare_typed.specs.Given.{base_row, is_str as str_type};
 ghost use Rattle.hare_typed.specs.Shapes as spec;
-ghost use Rattle.hare_const.specs.Settled.{HasBase};
+ghost use Rattle.hare_typed.specs.Settled.{HasBase};
 ghost use Rattle.hare_const.specs.Shapes.{shape_of, IsNarrow};
 
 use hare_types::{Row, Scalar, Ty, TypeId, TypeStore};

@@ -5,7 +5,7 @@ ghost use Rattle.hare_types.specs.declared.extent.Extent.{Extent as ExtentOf};
 ghost use Rattle.hare_types.specs.ByIds.{extent_at, size_at, align_at, offset_at};
 ghost use Rattle.hare_types.specs.Kept.{all_known};
 ghost use Rattle.hare_types.specs.Layout.{field_start, round_up as spec_round_up};
-ghost use Rattle.hare_const.specs.Sizes as spec;
+ghost use Rattle.hare_typed.specs.Sizes as spec;
 
 use crate::shape::base_row;
 use hare_types::{Extent, Row, TypeId, TypeStore};

@@ -4,7 +4,7 @@ ghost use Rattle.std.specs.Prelude.{◌≡◌, ◌++◌, ◌-◌, ◌<◌, ◌^�
 ghost use Rattle.hare_typed.specs.Typed.{typed_nodes};
 ghost use Rattle.hare_typed.specs.ConstantValues.{objects_of, text_object};
 ghost use Rattle.hare_typed.specs.Constants.{own_kind};
-ghost use Rattle.hare_const.specs.Statics as spec;
+ghost use Rattle.hare_typed.specs.Coherent as spec;
 
 use crate::addresses::object_number;
 use crate::literals::cells_of_bytes;

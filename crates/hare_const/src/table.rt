@@ -3,7 +3,7 @@
 ghost use Rattle.std.specs.Prelude.{◌≡◌, ℕ, option_copied, IfOk};
 ghost use Rattle.std.specs.Ordering.{nat_cmp};
 ghost use Rattle.std.specs.BTreeMap.{get};
-ghost use Rattle.hare_const.specs.Texts as spec;
+ghost use Rattle.hare_typed.specs.Texts as spec;
 
 use hare_typed::{Cells, ConstObjects};
 use std::alloc::{AllocError, Global};

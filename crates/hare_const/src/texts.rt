@@ -5,7 +5,7 @@ ghost use Rattle.hare_typed.specs.Typed.{typed_nodes, mark_of, kids_of};
 ghost use Rattle.hare_typed.specs.Scalars.{Address};
 ghost use Rattle.hare_typed.specs.Words.{words};
 ghost use Rattle.hare_const.specs.NodeValues as values;
-ghost use Rattle.hare_const.specs.Texts as spec;
+ghost use Rattle.hare_typed.specs.Texts as spec;
 
 use crate::number::byte_of;
 use crate::shape::is_str;

@@ -5,7 +5,7 @@ ghost use Rattle.hare_types.specs.ByIds.{members_at, payload_at};
 ghost use Rattle.hare_typed.specs.Cells.{undefined_cells};
 ghost use Rattle.hare_typed.specs.Folded.{tagged_by_id};
 ghost use Rattle.hare_typed.specs.Unions as spec;
-ghost use Rattle.hare_const.specs.Sizes.{Fits};
+ghost use Rattle.hare_typed.specs.Sizes.{Fits};
 
 use crate::number::byte_cells_of;
 use crate::sizes::{align_of, size_of};

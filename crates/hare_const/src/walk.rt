@@ -5,7 +5,7 @@ ghost use Rattle.hare_typed.specs.Typed.{typed_nodes};
 ghost use Rattle.hare_typed.specs.Constants.{own_kind};
 ghost use Rattle.hare_typed.specs.Folded.{tagged_by_id};
 ghost use Rattle.hare_const.specs.Made as objects;
-ghost use Rattle.hare_const.specs.Settled.{IsSettled, AreSettled};
+ghost use Rattle.hare_typed.specs.Settled.{IsSettled, AreSettled};
 ghost use Rattle.hare_const.specs.NodeValues as spec;
 
 use crate::constancy::{hides_kids, is_constant, is_type};

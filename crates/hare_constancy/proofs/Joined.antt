@@ -25,8 +25,8 @@ use Rattle.hare_assign.specs.Chosen.{is_its_default, first_of, only_of, member_f
 use Rattle.hare_assign.specs.First.{IsFirst}
 use Rattle.hare_assign.proofs.FirstLemmas.{first_from-first}
 use Rattle.hare_assign.proofs.ChosenLemmas.{base_union, keeps_own}
-use Rattle.hare_const.specs.Sizes.{Fits}
-use Rattle.hare_const.specs.Joined.{AreTold, IsToldUnion, HasToldUnion, IsJoined, Joins}
+use Rattle.hare_typed.specs.Sizes.{Fits}
+use Rattle.hare_typed.specs.Joined.{AreTold, IsToldUnion, HasToldUnion, IsJoined, Joins}
 use Rattle.hare_const.proofs.JoinedLemmas.{chosen_first}
 use Rattle.hare_rules.specs.Settles.{same, to_type}
 use Rattle.hare_constancy.specs.Measured.{IsKnown}

@@ -26,8 +26,8 @@ use Rattle.hare_typed.specs.ConstantForms.{type_of_kid, is_iconst, int_in}
 use Rattle.hare_layout.proofs.PlacesLemmas.{then}
 use Rattle.hare_assign.proofs.ChosenLemmas.{base_is}
 use Rattle.hare_assign.proofs.TypeLemmas.{type_at_row}
-use Rattle.hare_const.specs.Operators.{IsWidth}
-use Rattle.hare_const.specs.NodeValues.{HasNumber, HasNumbers}
+use Rattle.hare_typed.specs.Settled.{IsWidth}
+use Rattle.hare_typed.specs.Settled.{HasNumber, HasNumbers}
 use Rattle.hare_rules.specs.Words as words
 use Rattle.hare_rules.specs.Words.{Common, Typed, Exact, common, common_of_types, common_type, widens, integer_word, integer_word_of, word_of, wider_word, holds_in, has_integer_base, is_integer, default_in, word_id, are_iconsts}
 use Rattle.hare_rules.specs.Context.{Context, store_of, kid, own_type}

@@ -28,8 +28,8 @@ use Rattle.hare_typed.specs.Constants.{own_kind}
 use Rattle.hare_typed.specs.Followed.{reached_type}
 use Rattle.hare_typed.specs.ConstantForms.{type_of_kid, part_in, part_named, counted_from, fields_from}
 use Rattle.hare_layout.proofs.PlacesLemmas.{then}
-use Rattle.hare_const.specs.Sizes.{Fits, HasPart}
-use Rattle.hare_const.specs.NodeValues.{IsSized, HasParts, components_given, fields_given, type_with_offset, part_with_offset}
+use Rattle.hare_typed.specs.Sizes.{Fits, HasPart}
+use Rattle.hare_typed.specs.Settled.{IsSized, HasParts, components_given, fields_given, type_with_offset, part_with_offset}
 use Rattle.hare_rules.specs.Words as words
 use Rattle.hare_rules.specs.Context.{Context, store_of, kid, own_type, behind_first}
 use Rattle.hare_rules.specs.Operators.{has_size_of}

@@ -12,8 +12,8 @@ use Rattle.hare_typed.specs.Given.{given}
 use Rattle.hare_typed.specs.Followed.{reached_within}
 use Rattle.hare_typed.specs.Constants.{own_kind}
 use Rattle.hare_typed.specs.ConstantForms.{own_type, type_of_kid}
-use Rattle.hare_const.specs.NodeValues.{IsSized, HasParts, type_with_offset, part_with_offset, AskedKind, PlainKind, IsSimple, AreSimple}
-use Rattle.hare_const.specs.Settled.{HasBase, HasBases, HaveBases, IsSettled}
+use Rattle.hare_typed.specs.Settled.{IsSized, HasParts, type_with_offset, part_with_offset, AskedKind, PlainKind, IsSimple, AreSimple}
+use Rattle.hare_typed.specs.Settled.{HasBase, HasBases, HaveBases, IsSettled}
 use Rattle.hare_rules.specs.declared.row_id.RowId.TheVariants as rules
 use Rattle.hare_rules.specs.Context.{Setting, Context, store_of, kid}
 use Rattle.hare_rules.specs.Aggregates.{is_path, is_member_access}

@@ -14,7 +14,7 @@ use Rattle.hare_types.proofs.IdLemmas.{base-row, sized-row, sized_tells}
 use Rattle.hare_typed.specs.Given.{base_row}
 use Rattle.hare_layout.proofs.PlacesLemmas.{fields_lie_in, then}
 use Rattle.hare_assign.proofs.TypeLemmas.{tree_at-type}
-use Rattle.hare_const.specs.Sizes.{Fits, HasPart}
+use Rattle.hare_typed.specs.Sizes.{Fits, HasPart}
 use Rattle.hare_constancy.specs.Measured.{IsKnown}
 use Rattle.std.proofs.lemmas.Option.{slice_get_within}
 

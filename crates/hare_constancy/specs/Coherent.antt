@@ -9,7 +9,7 @@ use Rattle.hare_typed.specs.declared.constant.ConstObject.{ConstObject}
 use Rattle.hare_typed.specs.Typed.{TypedNode, TypedNodes, marked, typed_none, typed_more, mark_of}
 use Rattle.hare_typed.specs.Cells.{byte_cells}
 use Rattle.hare_typed.specs.Erased.{erase}
-use Rattle.hare_const.specs.Statics.{IsCoherent}
+use Rattle.hare_typed.specs.Coherent.{IsCoherent}
 use Rattle.hare_rules.specs.declared.declared.DeclType.{DeclType}
 use Rattle.hare_rules.specs.Above.{Above, trees_in}
 use Rattle.hare_rules.specs.Context.{Setting, Entry, declaration}

@@ -6,7 +6,7 @@ use Rattle.hare_types.specs.Store.{Store}
 use Rattle.hare_types.specs.ByIds.{base_at, has_size_at}
 use Rattle.hare_typed.specs.Typed.{TypedNode, TypedNodes, marked, typed_none, typed_more}
 use Rattle.hare_typed.specs.Followed.{reached_within}
-use Rattle.hare_const.specs.Sizes.{Fits}
+use Rattle.hare_typed.specs.Sizes.{Fits}
 
 -- where it is a type, its base is known; and where values of it have a size, they have no more bytes than a program may spell
 abbrev pub IsKnown : Store → Ty → Type 0

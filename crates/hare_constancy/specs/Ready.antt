@@ -1,7 +1,6 @@
 -- That a well-typed value of a declaration has all that its constant rests on.
 use Rattle.std.specs.Prelude.{◌≡◌, ◌≤◌, ◌^◌, ℕ, true, List}
 use Rattle.hare_types.specs.declared.coercion.Coercion.{Coercion}
-use Rattle.hare_types.specs.Store.{Store}
 use Rattle.hare_types.specs.Sound.{IsStore}
 use Rattle.hare_typed.specs.declared.constant.Const.TheVariants as constant
 use Rattle.hare_typed.specs.Typed.{TypedNode, mark_of}
@@ -10,8 +9,7 @@ use Rattle.hare_typed.specs.Constants.{own_kind}
 use Rattle.hare_typed.specs.ConstantForms.{own_type}
 use Rattle.hare_typed.specs.Erased.{erase}
 use Rattle.hare_typed.specs.Folded.{folded}
-use Rattle.hare_const.specs.Settled.{IsSettled}
-use Rattle.hare_const.specs.Statics.{IsCoherent}
+use Rattle.hare_typed.specs.Settled.{IsReady}
 use Rattle.hare_rules.specs.Above.{Above, trees_in}
 use Rattle.hare_rules.specs.Context.{Setting, DeclaredValue, Entry}
 use Rattle.hare_rules.specs.Finished.{IsWell}
@@ -40,11 +38,6 @@ pub record IsWellValue (w : Setting) (a : Above) (ls : List Entry) (t : TypedNod
   pub few : trees_in (erase t) ≤ 2 ^ 32
   pub short : HasShortTexts t
   pub cases : CasesList (IsStatic w a.inside.own t) t
-
--- All is there of a tree that its constant rests on, but for memory.
-pub record IsReady (s : Store) (own : ℕ) (t : TypedNode) : Type 0 where
-  pub settled : IsSettled s t
-  pub coherent : IsCoherent s own t
 
 -- It is so when the constant is asked for, with any coercion that the value may have, where its types are known and small.
 abbrev pub AskedValuesAreReady : Type 0

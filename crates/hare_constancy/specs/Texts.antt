@@ -11,7 +11,7 @@ use Rattle.hare_typed.specs.Erased.{erase}
 use Rattle.hare_typed.specs.Constants.{own_kind, is_known}
 use Rattle.hare_typed.specs.ConstantForms.{own_type}
 use Rattle.hare_typed.specs.Given.{is_str}
-use Rattle.hare_const.specs.Texts.{text_in, longest}
+use Rattle.hare_typed.specs.Texts.{text_in, longest}
 use Rattle.hare_rules.specs.declared.declared.DeclType.{DeclType}
 use Rattle.hare_rules.specs.Above.{Above}
 use Rattle.hare_rules.specs.Context.{Setting, Entry, declaration}

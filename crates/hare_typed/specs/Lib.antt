@@ -36,3 +36,8 @@ pub mod Quiet
 pub mod Followed
 pub mod CostLaws
 pub mod Bindings
+pub mod Sizes
+pub mod Joined
+pub mod Texts
+pub mod Coherent
+pub mod Settled

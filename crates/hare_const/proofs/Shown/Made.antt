@@ -34,7 +34,7 @@ use Rattle.hare_const.specs.declared.outcome.Outcome.{Outcome}
 use Rattle.hare_const.specs.declared.outcome.Outcome.TheVariants.{Known}
 use Rattle.hare_const.specs.NodeValues.{on_cells, on_answer, kid_at, kids_at, object_number, literal_text, numbered, number_of_kid, same_texts, same_operands, array_length_value, declared_by, operands_of, unary_value, binary_value, operator_value, kind_value, slice_of, cells_known, array_value, tuple_value, struct_value}
 use Rattle.hare_const.specs.Made.{is_open, is_taken, taken_from, made_by_kids, own_object, made_of_value}
-use Rattle.hare_const.specs.Statics.{held}
+use Rattle.hare_typed.specs.Coherent.{held}
 use Rattle.hare_const.proofs.Shown.Acts.{Has, has_more, Shown, Shows}
 use Rattle.hare_const.proofs.Shown.Texts.{held-append}
 use Rattle.hare_const.proofs.Shown.Forms.{homed-same, Compares, IsCompared, numbers, texts, as_equal, Places}

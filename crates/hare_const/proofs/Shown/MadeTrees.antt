@@ -17,9 +17,11 @@ use Rattle.hare_typed.specs.Interpreter.{Tasks, node_act, kid_act, fewer_than}
 use Rattle.hare_typed.specs.Evaluated.{is_evaluated, is_place, place_in_mode, value_in_mode, gives}
 use Rattle.hare_typed.specs.ConstantValues.{without_run, constant_place, constant_node, constant_forms, statics, state_without_run, constant_result}
 use Rattle.hare_const.specs.declared.operands.Operands.TheVariants.{NoKid}
-use Rattle.hare_const.specs.NodeValues.{kid_at, operands_of, kind_value, kid_values, PlainKind, IsPlain, ArePlain}
+use Rattle.hare_typed.specs.Settled.{PlainKind, IsPlain, ArePlain}
+use Rattle.hare_const.specs.NodeValues.{kid_at, operands_of, kind_value, kid_values}
 use Rattle.hare_const.specs.Made.{made_by_kids, made_of_value, made_by, made_by_each}
-use Rattle.hare_const.specs.Statics.{scope_in, held, statics_in, statics_in_each, is_text_equality, compares_texts, compares_texts_each, IsCoherent, objects_in}
+use Rattle.hare_typed.specs.Coherent.{scope_in, held, statics_in, statics_in_each, is_text_equality, compares_texts, compares_texts_each, IsCoherent}
+use Rattle.hare_const.specs.Statics.{objects_in}
 use Rattle.hare_const.proofs.Shown.Acts.{Shows}
 use Rattle.hare_const.proofs.Shown.Made.{made_at, named_in, MakesThese, Makes, makes_as, makes_end, taken_none, ReadyToMake, makes_value_of}
 use Rattle.hare_const.proofs.Shown.Trees.{first-none, type-idle, constant_from, no_place, and-left, not-true, compared, over, first-reached, form, kids-shown, Safe, safe_kids, safe_node, safe_first, safe_rest, has_statics}

@@ -42,8 +42,8 @@ use Rattle.hare_typed.proofs.ScalarLemmas.{bytes_of-only, bytes_of-byte_cells, l
 use Rattle.hare_const.specs.declared.outcome.Outcome.{Outcome}
 use Rattle.hare_const.specs.declared.outcome.Outcome.TheVariants.{Known}
 use Rattle.hare_const.specs.NodeValues.{on_cells, kid_at, object_number, slice_of, cells_known, numbered, number_of_kid, cast_value, kind_value, coerced_value, tree_value, kid_values, same_texts}
-use Rattle.hare_const.specs.Texts.{cells_found, AreCoherent, bytes_behind, bytes_at, text_of_words, text_in, keeps_text, longest, unless_long, text_by, text_of, text_of_kid, bytes_told, AreTexts}
-use Rattle.hare_const.specs.Statics.{scope_in, held, statics_in, statics_in_each}
+use Rattle.hare_typed.specs.Texts.{cells_found, AreCoherent, bytes_behind, bytes_at, text_of_words, text_in, keeps_text, longest, unless_long, text_by, text_of, text_of_kid, bytes_told, AreTexts}
+use Rattle.hare_typed.specs.Coherent.{scope_in, held, statics_in, statics_in_each}
 use Rattle.hare_const.proofs.Shown.Acts.{Has}
 use Rattle.hare_const.proofs.Shown.Forms.{Compares}
 

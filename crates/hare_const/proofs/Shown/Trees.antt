@@ -29,9 +29,10 @@ use Rattle.hare_typed.specs.ConstantValues.{without_run, constant_form, constant
 use Rattle.hare_typed.specs.Folded.{is_abort, folded_from}
 use Rattle.hare_const.specs.declared.outcome.Outcome.{Outcome}
 use Rattle.hare_const.specs.declared.outcome.Outcome.TheVariants.{Known}
-use Rattle.hare_const.specs.NodeValues.{on_cells, kid_at, declared_by, own_value, coerced_value, tree_value, kid_values, PlainKind, IsPlain, ArePlain, IsSimple, AreSimple, is_aborted, cells_in, cells_of}
-use Rattle.hare_const.specs.Texts.{AreCoherent, AreTexts}
-use Rattle.hare_const.specs.Statics.{scope_in, statics_in, statics_in_each, is_text_equality, compares_texts, compares_texts_each, IsCoherent}
+use Rattle.hare_typed.specs.Settled.{PlainKind, IsPlain, ArePlain, IsSimple, AreSimple}
+use Rattle.hare_const.specs.NodeValues.{on_cells, kid_at, declared_by, own_value, coerced_value, tree_value, kid_values, is_aborted, cells_in, cells_of}
+use Rattle.hare_typed.specs.Texts.{AreCoherent, AreTexts}
+use Rattle.hare_typed.specs.Coherent.{scope_in, statics_in, statics_in_each, is_text_equality, compares_texts, compares_texts_each, IsCoherent}
 use Rattle.hare_const.proofs.Shown.Acts.{shown, Has, Shows, Ends}
 use Rattle.hare_const.proofs.Shown.Forms.{IsCompared, numbers, texts, Ready, ends_value_of}
 use Rattle.hare_const.proofs.Shown.Texts.{statics-again, Inside, of_kids, first_of, rest_of, compares, coherent_inside}

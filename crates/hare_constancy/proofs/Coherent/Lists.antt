@@ -5,7 +5,7 @@ use Rattle.std.specs.Map.{lookup}
 use Rattle.std.proofs.lemmas.Bool.{eqb-true, eq-eqb}
 use Rattle.hare_typed.specs.declared.constant.ConstObject.{ConstObject}
 use Rattle.hare_typed.specs.ConstantValues.{constant_object, listed_objects}
-use Rattle.hare_const.specs.Texts.{cells_found, AreCoherent}
+use Rattle.hare_typed.specs.Texts.{cells_found, AreCoherent}
 
 cons-cases : {A : Type 0} (x : A) (xs : List A) (y : A) → Contains (x ∷ xs) y → (x ≡ y) ⊎ Contains xs y
 cons-cases x xs y (zero, l, e) = inl e

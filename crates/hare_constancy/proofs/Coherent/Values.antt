@@ -16,8 +16,8 @@ use Rattle.hare_typed.specs.Coats.{coat, coat_each}
 use Rattle.hare_typed.specs.ConstantValues.{objects_of, text_object, statics, statics_of_each}
 use Rattle.hare_typed.specs.Erased.{erase, erase_each}
 use Rattle.hare_typed.specs.Numbers.{number_of}
-use Rattle.hare_const.specs.Statics.{scope_in, held, statics_in, statics_in_each}
-use Rattle.hare_const.specs.Texts.{AreCoherent}
+use Rattle.hare_typed.specs.Coherent.{scope_in, held, statics_in, statics_in_each}
+use Rattle.hare_typed.specs.Texts.{AreCoherent}
 use Rattle.hare_const.proofs.Shown.Texts.{held-append, held_listed}
 use Rattle.hare_rules.specs.declared.declared.DeclType.{DeclType}
 use Rattle.hare_rules.specs.Above.{Above, over_kid, role_where, role_of}

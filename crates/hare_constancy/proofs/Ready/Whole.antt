@@ -13,8 +13,8 @@ use Rattle.hare_typed.specs.ConstantForms.{own_type}
 use Rattle.hare_typed.specs.Erased.{erase}
 use Rattle.hare_typed.specs.Folded.{folded}
 use Rattle.hare_typed.specs.Numbers.{number_of}
-use Rattle.hare_const.specs.Settled.{IsSettled}
-use Rattle.hare_const.specs.Statics.{IsCoherent}
+use Rattle.hare_typed.specs.Settled.{IsSettled}
+use Rattle.hare_typed.specs.Coherent.{IsCoherent}
 use Rattle.hare_rules.specs.Above.{Above}
 use Rattle.hare_rules.specs.declared.hint.Hint.{Hint}
 use Rattle.hare_rules.specs.declared.hint.Hint.TheVariants as hint

@@ -25,8 +25,8 @@ use Rattle.hare_typed.specs.ConstantForms.{own_type, is_iconst, int_in}
 use Rattle.hare_typed.specs.Given.{base_row, is_str}
 use Rattle.hare_typed.specs.Shapes.{shape_of_row, int_of_shape}
 use Rattle.hare_layout.proofs.PlacesLemmas.{then}
-use Rattle.hare_const.specs.Operators.{IsWidth}
-use Rattle.hare_const.specs.NodeValues.{HasNumber}
+use Rattle.hare_typed.specs.Settled.{IsWidth}
+use Rattle.hare_typed.specs.Settled.{HasNumber}
 use Rattle.hare_rules.specs.declared.row_id.RowId.TheVariants as rules
 use Rattle.hare_rules.specs.Words as words
 use Rattle.hare_rules.specs.Words.{is_integer, is_word, word_id, id_in}

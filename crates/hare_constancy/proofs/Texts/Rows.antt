@@ -25,7 +25,7 @@ use Rattle.hare_layout.proofs.PlacesLemmas.{then}
 use Rattle.hare_assign.proofs.ChosenLemmas.{base_is}
 use Rattle.hare_assign.proofs.SameLemmas.{same-ids}
 use Rattle.hare_assign.proofs.TypeLemmas.{type_at_row}
-use Rattle.hare_const.specs.Texts.{keeps_text}
+use Rattle.hare_typed.specs.Texts.{keeps_text}
 use Rattle.hare_rules.specs.Settles.{same as same_as}
 use Rattle.hare_constancy.specs.Measured.{IsKnown}
 use Rattle.hare_constancy.specs.Met.{GoesTo}

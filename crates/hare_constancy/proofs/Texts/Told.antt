@@ -31,8 +31,8 @@ use Rattle.hare_typed.specs.Given.{given, first_given, second_given, base_row, i
 use Rattle.hare_typed.specs.Constants.{own_kind, is_known}
 use Rattle.hare_typed.specs.ConstantForms.{own_type}
 use Rattle.hare_typed.specs.Constancy.{is_name_of, is_void_row, names_void, is_wrapper, is_constant_kind, is_constant, hides_kids, or_else, first_inconstant, first_inconstant_of}
-use Rattle.hare_const.specs.NodeValues.{PlainKind}
-use Rattle.hare_const.specs.Texts.{text_in, keeps_text, longest, unless_long, text_by, text_of, text_of_kid}
+use Rattle.hare_typed.specs.Settled.{PlainKind}
+use Rattle.hare_typed.specs.Texts.{text_in, keeps_text, longest, unless_long, text_by, text_of, text_of_kid}
 use Rattle.hare_rules.specs.declared.declared.DeclType.{DeclType}
 use Rattle.hare_rules.specs.Aggregates.{is_path}
 use Rattle.hare_rules.specs.Context.{Setting, Context, declaration, store_of, kid}

@@ -3,7 +3,7 @@ use Rattle.hare_typed.specs.Unions.{union_members}
 use Rattle.hare_typed.specs.Coercions.{chosen_member}
 use Rattle.hare_typed.specs.ConstantForms.{own_type}
 use Rattle.hare_assign.specs.Chosen.{first_choice}
-use Rattle.hare_const.specs.Joined.{HasToldUnion}
+use Rattle.hare_typed.specs.Joined.{HasToldUnion}
 use Rattle.hare_const.proofs.JoinedLemmas.{chosen_choice}
 use Rattle.hare_const.proofs.CoercionLemmas.{wider_result, wider_made}
 use Rattle.hare_const.proofs.coercions.as_union.Goals as goal

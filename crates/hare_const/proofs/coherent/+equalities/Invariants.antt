@@ -1,6 +1,6 @@
 use Rattle.std.proofs.Common.{◌≡◌, drop}
 use Rattle.hare_typed.specs.Typed.{typed_nodes}
-use Rattle.hare_const.specs.Statics.{compares_texts_each}
+use Rattle.hare_typed.specs.Coherent.{compares_texts_each}
 use Rattle.hare_const.proofs.coherent.+equalities.Given as goal
 
 abbrev pub decreases-compares_texts : goal.decreases-compares_texts

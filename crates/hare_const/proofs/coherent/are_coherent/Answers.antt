@@ -1,7 +1,7 @@
 use Rattle.std.proofs.Common.{◌≡◌, ◌∙◌, ◌≤◌, length, sym, ap, arith, refl}
 use Rattle.std.specs.Prelude.{slice_get, Some}
-use Rattle.hare_const.specs.Statics.{statics_in}
-use Rattle.hare_const.specs.Texts.{cells_found}
+use Rattle.hare_typed.specs.Coherent.{statics_in}
+use Rattle.hare_typed.specs.Texts.{cells_found}
 use Rattle.hare_const.proofs.TextLemmas.{found_more, found_all, coherent_at}
 use Rattle.hare_const.proofs.coherent.are_coherent.Goals as goal
 

@@ -1,4 +1,4 @@
-use Rattle.hare_const.specs.Statics.{statics_in}
+use Rattle.hare_typed.specs.Coherent.{statics_in}
 use Rattle.hare_const.proofs.TextLemmas.{AreFound}
 use Rattle.hare_const.proofs.coherent.are_coherent.Given as goal
 

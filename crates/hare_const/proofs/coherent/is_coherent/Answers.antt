@@ -1,7 +1,7 @@
 use Rattle.std.proofs.Common.{◌≡◌, ◌∙◌, sym, Bool, true, Result, Ok, Err}
 use Rattle.std.specs.Prelude.{◌↔◌, IsTrue, IfOk}
-use Rattle.hare_const.specs.Statics.{compares_texts, statics_in}
-use Rattle.hare_const.specs.Texts.{AreCoherent}
+use Rattle.hare_typed.specs.Coherent.{compares_texts, statics_in}
+use Rattle.hare_typed.specs.Texts.{AreCoherent}
 use Rattle.hare_const.proofs.coherent.is_coherent.Goals as goal
 
 -- where it is asked for

@@ -1,7 +1,8 @@
 use Rattle.std.proofs.Common.{◌≡◌, ◌∙◌, ◌++◌, ap}
 use Rattle.hare_typed.specs.Folded.{tagged_by_id}
 use Rattle.hare_const.specs.Made.{made_by}
-use Rattle.hare_const.specs.Statics.{statics_in, objects_in, objects_led_to}
+use Rattle.hare_typed.specs.Coherent.{statics_in}
+use Rattle.hare_const.specs.Statics.{objects_in, objects_led_to}
 use Rattle.hare_const.proofs.FoldedLemmas.{known_later, none_later}
 use Rattle.hare_const.proofs.folded.const_eval.Goals as goal
 

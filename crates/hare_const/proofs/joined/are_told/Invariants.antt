@@ -1,5 +1,5 @@
 use Rattle.std.proofs.Common.{drop}
-use Rattle.hare_const.specs.Joined.{AreTold}
+use Rattle.hare_typed.specs.Joined.{AreTold}
 use Rattle.hare_const.proofs.joined.are_told.Given as goal
 
 -- all are told where those are that are left, and only there

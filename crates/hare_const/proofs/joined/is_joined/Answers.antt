@@ -1,7 +1,7 @@
 use Rattle.std.proofs.Common.{◌∙◌, ap, sym, subst}
 use Rattle.hare_typed.specs.ConstantForms.{own_type}
 use Rattle.hare_assign.specs.Chosen.{first_choice}
-use Rattle.hare_const.specs.Joined.{HasToldUnion}
+use Rattle.hare_typed.specs.Joined.{HasToldUnion}
 use Rattle.hare_const.proofs.ToldLemmas.{joined_found, joined_own, own_union}
 use Rattle.hare_const.proofs.joined.is_joined.Goals as goal
 

@@ -1,8 +1,8 @@
 use Rattle.std.proofs.Common.{◌≡◌, ◌∙◌, sym, subst, ◌∷◌, []}
 use Rattle.std.proofs.lemmas.List.Elements.{recursion_from_All}
 use Rattle.hare_types.specs.declared.coercion.Ty.TheVariants as ty
-use Rattle.hare_const.specs.Sizes.{HasPart}
-use Rattle.hare_const.specs.NodeValues.{type_with_offset, part_with_offset, HasParts}
+use Rattle.hare_typed.specs.Sizes.{HasPart}
+use Rattle.hare_typed.specs.Settled.{type_with_offset, part_with_offset, HasParts}
 use Rattle.hare_const.proofs.PartLemmas.{type_with_parts}
 use Rattle.hare_const.proofs.measures.offset_value.Goals as goal
 

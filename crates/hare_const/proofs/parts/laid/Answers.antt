@@ -2,7 +2,7 @@ use Rattle.std.proofs.Common.{◌<◌, ◌+◌, ◌∙◌, sym, refl, arith, len
 use Rattle.std.proofs.lemmas.List.Elements.{All-get_or}
 use Rattle.hare_types.specs.declared.coercion.Ty.TheVariants as ty
 use Rattle.hare_const.specs.declared.outcome.Outcome.TheVariants.{Aborts, Undefined}
-use Rattle.hare_const.specs.Sizes.{HasPart}
+use Rattle.hare_typed.specs.Sizes.{HasPart}
 use Rattle.hare_const.proofs.SizeLemmas.{start_within, start_found}
 use Rattle.hare_const.proofs.PartLemmas.{gathered_more, gathered_stopped, gathered_all}
 use Rattle.hare_const.proofs.parts.laid.Goals as goal

@@ -7,8 +7,8 @@ use Rattle.hare_typed.specs.Typed.{kids_of}
 use Rattle.hare_typed.specs.Weight.{items_of}
 use Rattle.hare_typed.specs.ConstantForms.{own_type}
 use Rattle.hare_const.specs.declared.outcome.Outcome.{Outcome}
-use Rattle.hare_const.specs.Sizes.{HasPart}
-use Rattle.hare_const.specs.NodeValues.{HasParts, components_given}
+use Rattle.hare_typed.specs.Sizes.{HasPart}
+use Rattle.hare_typed.specs.Settled.{HasParts, components_given}
 use Rattle.hare_const.proofs.PartLemmas.{with_given, length_counted}
 use Rattle.hare_const.proofs.parts.tuple_value.Goals as goal
 

@@ -4,7 +4,7 @@ use Rattle.hare_typed.specs.Typed.{typed_nodes, size_of, sizes_of, kids_of}
 use Rattle.hare_typed.specs.Constancy.{first_inconstant_of}
 use Rattle.hare_typed.specs.ConstantForms.{own_type}
 use Rattle.hare_typed.proofs.KidLemmas.{kid_size}
-use Rattle.hare_const.specs.Settled.{AreSettled}
+use Rattle.hare_typed.specs.Settled.{AreSettled}
 use Rattle.hare_const.proofs.LaterTypes.{in_store}
 use Rattle.hare_const.proofs.SettledLemmas.{settled_tree, settled_node, settled_kids}
 use Rattle.hare_const.proofs.RefusedLemmas.{finds_first, finds_more, finds_not, finds_all}

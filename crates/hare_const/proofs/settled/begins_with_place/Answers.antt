@@ -3,7 +3,7 @@ use Rattle.hare_types.specs.Assign.{IsIn}
 use Rattle.hare_typed.specs.Typed.{mark_of, typed_nodes, kids_of}
 use Rattle.hare_typed.specs.Constants.{own_kind}
 use Rattle.hare_typed.specs.Constancy.{names_void, is_global_path}
-use Rattle.hare_const.specs.Settled.{AreSettled}
+use Rattle.hare_typed.specs.Settled.{AreSettled}
 use Rattle.hare_const.proofs.NodeLemmas.{begins-found}
 use Rattle.hare_const.proofs.Shown.Trees.{not-true}
 use Rattle.hare_const.proofs.SettledLemmas.{first_placed, not_placed, settled_at, settled_type}

@@ -1,7 +1,7 @@
 use Rattle.std.proofs.Common.{◌≡◌, ◌∙◌, sym, ap, subst}
 use Rattle.hare_types.specs.declared.coercion.Ty.TheVariants as ty
 use Rattle.hare_typed.specs.ConstantForms.{own_type}
-use Rattle.hare_const.specs.NodeValues.{HasParts, fields_given}
+use Rattle.hare_typed.specs.Settled.{HasParts, fields_given}
 use Rattle.hare_const.proofs.SettledLemmas.{fields_back}
 use Rattle.hare_const.proofs.settled.gives_fields.Goals as goal
 

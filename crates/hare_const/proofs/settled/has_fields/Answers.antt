@@ -5,7 +5,7 @@ use Rattle.hare_types.specs.declared.coercion.Ty.TheVariants as ty
 use Rattle.hare_typed.specs.Typed.{kids_of, head_of}
 use Rattle.hare_typed.specs.Weight.{items_of}
 use Rattle.hare_typed.specs.ConstantForms.{part_named, fields_from}
-use Rattle.hare_const.specs.Sizes.{HasPart}
+use Rattle.hare_typed.specs.Sizes.{HasPart}
 use Rattle.hare_const.proofs.NodeLemmas.{count-kids}
 use Rattle.hare_const.proofs.PartLemmas.{kid_there}
 use Rattle.hare_const.proofs.SettledLemmas.{field_there, field_here, fields_there}

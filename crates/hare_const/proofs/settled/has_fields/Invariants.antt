@@ -2,7 +2,7 @@ use Rattle.std.proofs.Common.{◌-◌, suc}
 use Rattle.std.specs.List.{All}
 use Rattle.hare_types.specs.declared.coercion.Ty.TheVariants as ty
 use Rattle.hare_typed.specs.ConstantForms.{fields_from}
-use Rattle.hare_const.specs.Sizes.{HasPart}
+use Rattle.hare_typed.specs.Sizes.{HasPart}
 use Rattle.hare_const.proofs.settled.has_fields.Given as goal
 
 -- all are parts where those are that are left, and only there

@@ -1,6 +1,6 @@
 use Rattle.std.proofs.Common.{sym, subst, [], ◌∷◌}
 use Rattle.std.specs.Prelude.{◌↔◌, IsTrue}
-use Rattle.hare_const.specs.NodeValues.{HasParts, part_with_offset}
+use Rattle.hare_typed.specs.Settled.{HasParts, part_with_offset}
 use Rattle.hare_const.proofs.settled.has_offset.Goals as goal
 
 pub has_offset_in-requires : goal.has_offset_in-requires

@@ -1,7 +1,7 @@
 use Rattle.std.proofs.Common.{◌∙◌, sym, subst, [], ◌∷◌}
 use Rattle.std.proofs.lemmas.List.Elements.{All-nil, All-cons, recursion_from_All}
-use Rattle.hare_const.specs.Sizes.{HasPart}
-use Rattle.hare_const.specs.NodeValues.{HasParts, part_with_offset}
+use Rattle.hare_typed.specs.Sizes.{HasPart}
+use Rattle.hare_typed.specs.Settled.{HasParts, part_with_offset}
 use Rattle.hare_const.proofs.settled.has_offset_in.Goals as goal
 
 pub part_with_offset-requires : goal.part_with_offset-requires

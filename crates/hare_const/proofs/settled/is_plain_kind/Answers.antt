@@ -3,7 +3,7 @@ use Rattle.std.specs.Prelude.{◌↔◌, IsTrue}
 use Rattle.hare_tree.specs.declared.kind.Kind.TheVariants as kind
 use Rattle.hare_typed.specs.Typed.{kids_of}
 use Rattle.hare_typed.specs.Constants.{own_kind}
-use Rattle.hare_const.specs.NodeValues.{PlainKind}
+use Rattle.hare_typed.specs.Settled.{PlainKind}
 use Rattle.hare_const.proofs.settled.is_plain_kind.Goals as goal
 
 pub returns-in-Equal : goal.returns-in-Equal

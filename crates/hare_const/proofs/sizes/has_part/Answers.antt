@@ -1,5 +1,5 @@
 use Rattle.std.proofs.Common.{◌<◌, sym, length, arith}
-use Rattle.hare_const.specs.Sizes.{parts_in}
+use Rattle.hare_typed.specs.Sizes.{parts_in}
 use Rattle.hare_const.proofs.SizeLemmas.{has_part, part_within, no_part}
 use Rattle.hare_const.proofs.sizes.has_part.Goals as goal
 

@@ -7,7 +7,7 @@ use Rattle.hare_types.specs.ByIds.{extent_at}
 use Rattle.hare_types.specs.Kept.{all_known}
 use Rattle.hare_types.specs.Layout.{field_start}
 use Rattle.hare_typed.specs.Given.{base_row}
-use Rattle.hare_const.specs.Sizes.{AreFew, parts_in}
+use Rattle.hare_typed.specs.Sizes.{AreFew, parts_in}
 use Rattle.hare_const.proofs.SizeLemmas.{Starts, starts}
 use Rattle.hare_const.proofs.sizes.offset_of.Goals as goal
 

@@ -2,7 +2,7 @@ use Rattle.std.proofs.Common.{◌≡◌, ◌+◌, ◌-◌, ◌∷◌, Some, ap, 
 use Rattle.std.specs.Prelude.{slice_get}
 use Rattle.hare_types.specs.Layout.{field_start}
 use Rattle.hare_types.specs.ByIds.{extent_at}
-use Rattle.hare_const.specs.Sizes.{parts_in}
+use Rattle.hare_typed.specs.Sizes.{parts_in}
 use Rattle.hare_const.proofs.SizeLemmas.{known_next, start_next, start_here}
 use Rattle.hare_const.proofs.sizes.start_of.Goals as goal
 

@@ -3,7 +3,7 @@ use Rattle.hare_types.specs.declared.extent.Extent.{Extent}
 use Rattle.hare_types.specs.ByIds.{extent_at}
 use Rattle.hare_types.specs.Kept.{all_known}
 use Rattle.hare_types.specs.Layout.{field_start}
-use Rattle.hare_const.specs.Sizes.{parts_in}
+use Rattle.hare_typed.specs.Sizes.{parts_in}
 use Rattle.hare_const.proofs.sizes.start_of.Given as goal
 
 -- from the end of the parts so far the others begin where they do from the start

@@ -1,7 +1,7 @@
 use Rattle.std.proofs.Common.{◌≡◌, ◌∙◌, ◌≤◌, ◌∷◌, arith, sym, ap, length}
 use Rattle.hare_types.specs.ByIds.{extent_at}
 use Rattle.hare_types.specs.Layout.{round_up}
-use Rattle.hare_const.specs.Sizes.{parts_in}
+use Rattle.hare_typed.specs.Sizes.{parts_in}
 use Rattle.hare_const.proofs.SizeLemmas.{field_starts, known_next, starts_more, starts_all}
 use Rattle.hare_const.proofs.sizes.starts_in.Goals as goal
 

@@ -2,7 +2,7 @@ use Rattle.std.proofs.Common.{◌≡◌, ◌≤◌, ◌++◌, List, Some, drop}
 use Rattle.hare_types.specs.declared.extent.Extent.{Extent}
 use Rattle.hare_types.specs.ByIds.{extent_at}
 use Rattle.hare_types.specs.Kept.{all_known}
-use Rattle.hare_const.specs.Sizes.{parts_in}
+use Rattle.hare_typed.specs.Sizes.{parts_in}
 use Rattle.hare_const.proofs.SizeLemmas.{field_starts}
 use Rattle.hare_const.proofs.sizes.starts_in.Given as goal
 

@@ -3,7 +3,7 @@ use Rattle.std.specs.Prelude.{OnOk}
 use Rattle.hare_typed.specs.Typed.{typed_nodes, size_of, sizes_of, mark_of, kids_of}
 use Rattle.hare_typed.specs.Constants.{own_kind}
 use Rattle.hare_typed.specs.ConstantValues.{objects_of, text_object}
-use Rattle.hare_const.specs.Statics.{scope_in, held, statics_in, statics_in_each}
+use Rattle.hare_typed.specs.Coherent.{scope_in, held, statics_in, statics_in_each}
 use Rattle.hare_typed.proofs.KidLemmas.{kid_size}
 use Rattle.hare_const.proofs.StaticLemmas.{statics_parts, statics_more}
 use Rattle.hare_const.proofs.statics.+statics.Goals as goal

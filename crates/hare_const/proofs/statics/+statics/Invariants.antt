@@ -1,6 +1,6 @@
 use Rattle.std.proofs.Common.{◌≡◌, ◌++◌, take}
 use Rattle.hare_typed.specs.Typed.{typed_nodes}
-use Rattle.hare_const.specs.Statics.{statics_in_each}
+use Rattle.hare_typed.specs.Coherent.{statics_in_each}
 use Rattle.hare_const.proofs.statics.+statics.Given as goal
 
 abbrev pub decreases-put_statics : goal.decreases-put_statics

@@ -1,6 +1,6 @@
 use Rattle.std.proofs.Common.{◌∙◌, ◌≤◌, ◌++◌, ◌∷◌, [], sym, ap, length, arith}
 use Rattle.hare_typed.specs.ConstantValues.{objects_of}
-use Rattle.hare_const.specs.Statics.{held}
+use Rattle.hare_typed.specs.Coherent.{held}
 use Rattle.hare_const.proofs.StaticLemmas.{listed_more, listed_all}
 use Rattle.hare_const.proofs.statics.put_listed.Goals as goal
 

@@ -1,5 +1,5 @@
 use Rattle.std.proofs.Common.{◌≡◌, drop}
-use Rattle.hare_const.specs.Texts.{cells_found}
+use Rattle.hare_typed.specs.Texts.{cells_found}
 use Rattle.hare_const.proofs.texts.object_cells.Given as goal
 
 -- it is none of those so far

@@ -6,7 +6,7 @@ use Rattle.hare_types.specs.Store.{Store}
 use Rattle.hare_types.specs.ByIds.{base_at, members_at}
 use Rattle.hare_typed.specs.Unions.{union_members}
 use Rattle.hare_typed.specs.Coercions.{chosen_member}
-use Rattle.hare_const.specs.Sizes.{Fits}
+use Rattle.hare_typed.specs.Sizes.{Fits}
 
 -- of each of these types the base and the size can be told
 abbrev pub AreTold : Store → List ℕ → Type 0
