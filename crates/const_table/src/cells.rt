@@ -109,7 +109,7 @@ pub(crate) fn put_objects(out: &mut String, objects: &ConstObjects) -> Result<()
         out.push_str("; ")?;
         put_object(out, o.object)?;
         out.push_str(": ")?;
-        put_cells(out, &o.cells, 0)?;
+        put_cells(out, o.cells.cells(), 0)?;
     }
     Ok(())
 }

@@ -17,7 +17,7 @@ use Rattle.hare_types.specs.Unions.{put, put_all, ascending}
 use Rattle.hare_types.proofs.AscendingLemmas.{In, In-from, In-to, put-before, put-at, put-behind, Ascends-put_all, ascending-sound, ascending-whole, one_ascending}
 use Rattle.hare_typed.specs.declared.cell.Cell.{Cell}
 use Rattle.hare_typed.specs.declared.constant.ConstObject.{ConstObject}
-use Rattle.hare_typed.specs.Folded.{led_to, leads}
+use Rattle.hare_typed.specs.Leads.{led_to, leads}
 use Rattle.hare_typed.proofs.KidLemmas.{take-get}
 use Rattle.hare_const.specs.Statics.{cells_by, reached_by, listed_by, led_from, Adds}
 

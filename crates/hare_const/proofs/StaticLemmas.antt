@@ -19,7 +19,8 @@ use Rattle.hare_typed.specs.Constants.{own_kind}
 use Rattle.hare_typed.specs.Objects.{Object}
 use Rattle.hare_typed.specs.State.{Result, Value}
 use Rattle.hare_typed.specs.ConstantValues.{constant_object, listed_objects, objects_of, text_object, statics, statics_of_each, constant_result}
-use Rattle.hare_typed.specs.Folded.{leads, cells_named, cells_of_named, reached_in, with_cells_of, objects_behind, tagged_by_id, folded_from, folded, inconstant}
+use Rattle.hare_typed.specs.Leads.{leads}
+use Rattle.hare_typed.specs.Folded.{cells_named, cells_of_named, reached_in, with_cells_of, objects_behind, tagged_by_id, folded_from, folded, inconstant}
 use Rattle.hare_const.specs.NodeValues.{cells_in}
 use Rattle.hare_typed.specs.Settled.{IsSettled}
 use Rattle.hare_typed.specs.Texts.{cells_found}

@@ -8,7 +8,8 @@ use Rattle.hare_typed.specs.declared.constant.ConstObject.{ConstObject}
 use Rattle.hare_typed.specs.Typed.{TypedNode}
 use Rattle.hare_typed.specs.ConstantValues.{listed_objects}
 use Rattle.hare_typed.specs.Coherent.{statics_in}
-use Rattle.hare_typed.specs.Folded.{leads, objects_behind}
+use Rattle.hare_typed.specs.Leads.{leads}
+use Rattle.hare_typed.specs.Folded.{objects_behind}
 use Rattle.hare_const.specs.Made.{made_by}
 
 -- all that there are when the evaluation comes to cells: those that it makes come last

@@ -23,7 +23,7 @@ use crate::payloads::wider_cells;
 use crate::shape::base_row;
 use crate::unions::union_cells;
 use hare_assign::{assignable, first_choice};
-use hare_typed::{Cells, ConstObject, ConstObjects, Typed};
+use hare_typed::{Cells, ConstObject, ConstObjects, SharedCells, Typed};
 use hare_types::{Row, Ty, TypeId, TypeStore};
 use std::alloc::{AllocError, Global};
 
@@ -57,6 +57,7 @@ fn by_row(
     match row {
         6 => null_cells(alloc),
         7 if is_slice(s, to) => {
+            let cells = SharedCells::new(alloc, cells)?;
             made.push(ConstObject {
                 object: object_number(own, t),
                 cells,

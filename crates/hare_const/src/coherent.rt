@@ -73,7 +73,7 @@ fn are_coherent(alloc: Global, own: u32, t: &Typed) -> Result<bool, AllocError>
         let Some(cells) = table.get(&o.object) else {
             return Ok(false);
         };
-        if !cells.is_same(&o.cells) {
+        if !cells.cells().is_same(o.cells.cells()) {
             return Ok(false);
         }
     }

@@ -3,40 +3,21 @@
 ghost use Rattle.std.specs.Prelude.{◌≡◌, ◌∷◌, [], true, slice_get, option_to_list, Contains, IfOk, OnOk};
 ghost use Rattle.std.specs.Ordering.{nat_cmp};
 ghost use Rattle.std.specs.BTreeMap.{get};
-ghost use Rattle.hare_typed.specs.Folded as folded;
-ghost use Rattle.hare_typed.specs.Folded.{leads};
+ghost use Rattle.hare_typed.specs.Leads as leading;
+ghost use Rattle.hare_typed.specs.Leads.{leads};
 ghost use Rattle.hare_types.specs.Unions.{ascending};
 ghost use Rattle.hare_const.specs.Statics as spec;
 
 use crate::table::{Table, table_of};
-use hare_typed::{Cell, Cells, ConstObject, ConstObjects};
+use hare_typed::{Cell, Cells, ConstObject, ConstObjects, SharedCells, led_to};
 use std::alloc::{AllocError, Global};
 use std::collections::BTreeSet;
-
-/// The objects of strings, and of arrays that became slices, have the numbers from here on; those below are globals.
-const FIRST_OBJECT: u64 = 4_294_967_296;
 
 /// Numbers of objects: in the order in which they were met, each once, and in ascending order.
 #[derive(Drop)]
 struct Met {
     order: Vec<u64>,
     numbers: BTreeSet<u64>,
-}
-
-/// The number of the object to which a cell leads, where it leads to one that is no global.
-fn led_to(cell: Cell) -> Option<u64>
-    ensures { option_to_list result ≡ folded.led_to cell }
-{
-    match cell {
-        Cell::Fragment(object, _, _) => {
-            if object < FIRST_OBJECT {
-                None
-            } else {
-                Some(object)
-            }
-        }
-        Cell::Byte(_) | Cell::Undef => None,
-    }
 }
 
 /// Meets an object, again or for the first time.
@@ -65,7 +46,7 @@ fn is_newest(met: &Met, n: u64) -> bool
 fn meet_from(met: &mut Met, cell: Cell) -> Result<(), AllocError>
     requires { met.old.numbers.keys ≡ ascending met.old.order.items }
     ensures numbers { OnOk result (met.new.numbers.keys ≡ ascending met.new.order.items) }
-    ensures order { OnOk result (spec.Adds (folded.led_to cell) met.old.order.items met.new.order.items) }
+    ensures order { OnOk result (spec.Adds (leading.led_to cell) met.old.order.items met.new.order.items) }
 {
     match led_to(cell) {
         Some(n) if is_newest(met, n) => Ok(()),
@@ -87,14 +68,15 @@ fn meet_led(met: &mut Met, cells: &Cells) -> Result<(), AllocError>
     Ok(())
 }
 
-/// Meets the objects to which one leads, where it is in the table.
+/// Meets the objects to which one leads, where it is in the table. One that leads nowhere, as a text, is not looked through.
 fn meet_behind(met: &mut Met, table: &Table, n: u64) -> Result<(), AllocError>
     requires { met.old.numbers.keys ≡ ascending met.old.order.items }
     ensures numbers { OnOk result (met.new.numbers.keys ≡ ascending met.new.order.items) }
     ensures order { OnOk result (spec.Adds (leads (spec.cells_by (get nat_cmp table.now) n)) met.old.order.items met.new.order.items) }
 {
     match table.get(&n) {
-        Some(cells) => meet_led(met, cells),
+        Some(cells) if cells.lead_nowhere() => Ok(()),
+        Some(cells) => meet_led(met, cells.cells()),
         None => Ok(()),
     }
 }
@@ -144,14 +126,13 @@ fn numbers_reached(
 }
 
 /// The cells of the object with this number; none where it is not in the table.
-fn cells_of(alloc: Global, table: &Table, n: u64) -> Result<Cells, AllocError>
+fn cells_of(alloc: Global, table: &Table, n: u64) -> Result<SharedCells, AllocError>
     ensures { IfOk result (λ cs. cs ≡ spec.cells_by (get nat_cmp table.now) n) }
 {
-    let mut copy = Cells::new(alloc);
-    if let Some(cells) = table.get(&n) {
-        copy.append(alloc, cells)?;
+    match table.get(&n) {
+        Some(cells) => cells.share(),
+        None => SharedCells::new(alloc, Cells::new(alloc)),
     }
-    Ok(copy)
 }
 
 /// The objects with these numbers, with their cells.

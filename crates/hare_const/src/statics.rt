@@ -9,7 +9,7 @@ ghost use Rattle.hare_typed.specs.Coherent as spec;
 use crate::addresses::object_number;
 use crate::literals::cells_of_bytes;
 use hare_tree::Kind;
-use hare_typed::{Cells, Const, ConstObject, ConstObjects, Typed, TypedKids};
+use hare_typed::{Const, ConstObject, ConstObjects, SharedCells, Typed, TypedKids};
 use std::alloc::{AllocError, Global};
 
 /// Puts the object of a node behind the others, where the node is a string.
@@ -24,7 +24,8 @@ fn put_text(
 {
     match t.kind {
         Kind::Str => {
-            let cells = cells_of_bytes(alloc, t.text.bytes())?;
+            let text = cells_of_bytes(alloc, t.text.bytes())?;
+            let cells = SharedCells::new(alloc, text)?;
             objects.push(ConstObject {
                 object: object_number(own, t),
                 cells,
@@ -35,7 +36,7 @@ fn put_text(
 }
 
 /// Puts the objects of a constant behind the others.
-fn put_listed(alloc: Global, value: &Const, objects: &mut ConstObjects) -> Result<(), AllocError>
+fn put_listed(value: &Const, objects: &mut ConstObjects) -> Result<(), AllocError>
     ensures { OnOk result (objects.new ≡ objects.old ++ spec.held (objects_of value.now)) }
 {
     let Const::Known {
@@ -49,8 +50,7 @@ fn put_listed(alloc: Global, value: &Const, objects: &mut ConstObjects) -> Resul
         let Some(o) = listed.get(i) else {
             return Ok(());
         };
-        let mut cells = Cells::new(alloc);
-        cells.append(alloc, &o.cells)?;
+        let cells = o.cells.share()?;
         objects.push(ConstObject {
             object: o.object,
             cells,
@@ -71,7 +71,7 @@ pub(crate) fn put_statics(
     ensures { OnOk result (objects.new ≡ objects.old ++ spec.statics_in own t.now) }
 {
     put_text(alloc, own, t, objects)?;
-    put_listed(alloc, &t.value, objects)?;
+    put_listed(&t.value, objects)?;
     put_statics_of(alloc, own, &t.kids, objects)
 }
 

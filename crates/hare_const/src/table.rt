@@ -5,12 +5,12 @@ ghost use Rattle.std.specs.Ordering.{nat_cmp};
 ghost use Rattle.std.specs.BTreeMap.{get};
 ghost use Rattle.hare_typed.specs.Texts as spec;
 
-use hare_typed::{Cells, ConstObjects};
+use hare_typed::{ConstObjects, SharedCells};
 use std::alloc::{AllocError, Global};
 use std::collections::BTreeMap;
 
 /// The cells of objects by their numbers.
-pub(crate) type Table = BTreeMap<u64, Cells>;
+pub(crate) type Table = BTreeMap<u64, SharedCells>;
 
 /// The cells of these objects: of several with one number, those of the first.
 pub(crate) fn table_of(alloc: Global, mut objects: ConstObjects) -> Result<Table, AllocError>

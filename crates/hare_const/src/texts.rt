@@ -40,7 +40,7 @@ fn object_cells(objects: &ConstObjects, number: u64) -> Option<&Cells>
             return None;
         };
         if o.object == number {
-            return Some(&o.cells);
+            return Some(o.cells.cells());
         }
     }
     None

@@ -14,7 +14,7 @@ fn copy_cells(alloc: Global, cells: &Cells) -> Result<Cells, AllocError>
     Ok(copy)
 }
 
-/// A copy of objects, in their order.
+/// A copy of objects, in their order, that shares their cells.
 fn copy_objects(alloc: Global, objects: &ConstObjects) -> Result<ConstObjects, AllocError>
     ensures { IfOk result (λ os. os ≡ objects.now) }
 {
@@ -23,7 +23,7 @@ fn copy_objects(alloc: Global, objects: &ConstObjects) -> Result<ConstObjects, A
         let Some(object) = objects.get(i) else {
             unreachable!();
         };
-        let cells = copy_cells(alloc, &object.cells)?;
+        let cells = object.cells.share()?;
         copy.push(ConstObject {
             object: object.object,
             cells,
@@ -32,7 +32,7 @@ fn copy_objects(alloc: Global, objects: &ConstObjects) -> Result<ConstObjects, A
     Ok(copy)
 }
 
-/// A copy of a constant, with its objects. The time is that of what it holds.
+/// A copy of a constant, which shares the cells of its objects. The time is that of its own cells and of the number of its objects.
 pub fn copy_constant(alloc: Global, value: &Const) -> Result<Const, AllocError>
     ensures { IfOk result (λ c. c ≡ value.now) }
 {

@@ -7,6 +7,7 @@ mod UnionRows
 pub mod RepeatLemmas
 pub mod OriginLemmas
 pub mod StretchLemmas
+pub mod LeadLemmas
 pub mod KidLemmas
 pub mod CoatLemmas
 pub mod GivenLemmas

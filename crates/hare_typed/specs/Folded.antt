@@ -1,13 +1,13 @@
 -- The constant of a value: whether it has one, and its cells with the objects to which they lead.
-use Rattle.std.specs.Prelude.{ℕ, zero, suc, ◌^◌, Bool, true, false, nat_eq, nat_le, List, [], ◌∷◌, length, flat_map, Option, Some, None, if◌then◌else◌}
+use Rattle.std.specs.Prelude.{ℕ, zero, suc, Bool, true, false, nat_eq, List, [], ◌∷◌, length, flat_map, Option, Some, None}
 use Rattle.std.specs.Map.{lookup}
 use Rattle.hare_types.specs.Store.{Store}
 use Rattle.hare_types.specs.Unions.{put_all, ascending}
 use Rattle.hare_typed.specs.declared.cell.Cell.{Cell}
-use Rattle.hare_typed.specs.declared.cell.Cell.TheVariants as cell
 use Rattle.hare_typed.specs.declared.constant.Const.{Const}
 use Rattle.hare_typed.specs.declared.constant.Const.TheVariants as constant
 use Rattle.hare_typed.specs.declared.constant.ConstObject.{ConstObject}
+use Rattle.hare_typed.specs.Leads.{leads}
 use Rattle.hare_typed.specs.Typed.{TypedNode}
 use Rattle.hare_typed.specs.Objects.{Object}
 use Rattle.hare_typed.specs.State.{Outcome, Value, Abort, Result}
@@ -39,18 +39,6 @@ abbrev pub inconstant : Store → (own : ℕ) → TypedNode → Option TypedNode
 inconstant s own t = first_inconstant s (aborts s own) t
 
 -- ---- the objects to which cells lead
-
--- the objects of strings, and of arrays that became slices, have the numbers from here on; those below are globals
-abbrev pub first_object : ℕ
-first_object = 2 ^ 32
-
-abbrev pub led_to : Cell → List ℕ
-led_to (cell.Byte b) = []
-led_to (cell.Fragment o d k) = if nat_le first_object o then o ∷ [] else []
-led_to cell.Undef = []
-
-abbrev pub leads : List Cell → List ℕ
-leads cs = flat_map led_to cs
 
 abbrev pub cells_named : Option Object → List Cell
 cells_named None = []

@@ -6,6 +6,7 @@ pub mod Numbers
 pub mod Constants
 pub mod Answers
 pub mod Cells
+pub mod Leads
 pub mod Repeats
 pub mod Scalars
 pub mod Objects

@@ -1,6 +1,7 @@
 //! Constants: values that are known before the program runs.
 
 use crate::cells::Cells;
+use crate::shared::SharedCells;
 use hx_base::Items;
 
 /// The constant of a node, where it has one.
@@ -24,8 +25,8 @@ pub enum Const {
 pub struct ConstObject {
     /// Its number: one more than that of the declaration in which its node stands, times 2^32, and the number of the node.
     pub object: u64,
-    /// Its cells.
-    pub cells: Cells,
+    /// Its cells, which the constants that list the object share.
+    pub cells: SharedCells,
 }
 
 /// The objects of a constant, by ascending number.

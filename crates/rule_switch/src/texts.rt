@@ -142,7 +142,7 @@ fn object_cells(objects: &ConstObjects, number: u64) -> Option<&Cells>
 {
     for o in objects.as_slice() {
         if o.object == number {
-            return Some(&o.cells);
+            return Some(o.cells.cells());
         }
     }
     None

@@ -13,7 +13,8 @@ loop-i-preserved c =
     ap (λ os. slice_get os c.loop-i.i) (sym c.in_ok-objects.ensures) ∙ sym c.in-Some.ensures in
     let found : cells_found all o.object ≡ Some o.cells =
     ap (λ os. cells_found os o.object) (sym c.in_ok-statics_of.ensures) ∙ sym (c.in_ok-table.ensures o.object)
-    ∙ sym c.in-Some-get.ensures.value ∙ ap Some (c.is_same.ensures.0 c.if-not-is_same.false) in
+    ∙ sym c.in-Some-get.ensures.value
+    ∙ ap Some (sym c.cells.ensures ∙ c.is_same.ensures.0 c.if-not-is_same.false ∙ c.cells-in-loop-i.ensures) in
     found_more all c.loop-i.i o there found c.loop-i.invariant
 
 pub returns-then-not-is_same : goal.returns-then-not-is_same
@@ -27,6 +28,8 @@ returns-then-not-is_same c = (
       let same =
       c.in-Some-get.ensures.value ∙ c.in_ok-table.ensures o.object ∙ ap (λ os. cells_found os o.object) c.in_ok-statics_of.ensures
       ∙ coherent_at all c.loop-i.i o there h in
+      let held = c.cells.ensures in
+      let own = c.cells-in-loop-i.ensures in
       let both = sym c.if-not-is_same.true ∙ c.is_same.ensures.1 cc in
       absurd cc,
 )

@@ -1,5 +1,5 @@
 use Rattle.std.proofs.Common.{◌≡◌, [], ◌∷◌, subst, rules}
-use Rattle.hare_typed.specs.Folded.{led_to}
+use Rattle.hare_typed.specs.Leads.{led_to}
 use Rattle.hare_const.specs.Statics.{Adds}
 use Rattle.hare_const.proofs.ReachedLemmas.{adds_there}
 use Rattle.hare_const.proofs.reached.meet_from.Goals as goal

@@ -1,6 +1,6 @@
 use Rattle.std.proofs.Common.{◌≡◌, take}
 use Rattle.hare_types.specs.Unions.{ascending}
-use Rattle.hare_typed.specs.Folded.{leads}
+use Rattle.hare_typed.specs.Leads.{leads}
 use Rattle.hare_const.specs.Statics.{Adds}
 use Rattle.hare_const.proofs.reached.meet_led.Given as goal
 

@@ -3,7 +3,7 @@ use Rattle.std.specs.Prelude.{slice_get}
 use Rattle.std.specs.Ordering.{nat_cmp}
 use Rattle.std.specs.BTreeMap.{get}
 use Rattle.hare_types.specs.Unions.{ascending}
-use Rattle.hare_typed.specs.Folded.{leads}
+use Rattle.hare_typed.specs.Leads.{leads}
 use Rattle.hare_const.specs.Statics.{reached_by, Adds}
 use Rattle.hare_const.proofs.ReachedLemmas.{reaches_first, reaches_more, reaches_all}
 use Rattle.hare_const.proofs.reached.numbers_reached.Goals as goal

@@ -10,7 +10,7 @@ loop-i-preserved c =
     c.loop-i.invariant
     (c.in_ok-push.ensures.ok
     ∙ ap (λ cs. c.loop-i.objects ++ record { object = c.in-Some.o.now.object; cells = cs } ∷ [])
-    (c.in_ok-append.ensures.ok ∙ ap (λ cs. cs ++ c.in-Some.o.now.cells) c.new-cells.ensures))
+    c.in_ok-cells.ensures)
 
 pub returns : goal.returns
 returns c =
