@@ -1,6 +1,7 @@
 //! The types and the names that lines entered.
 
-ghost use Rattle.std.specs.Prelude.{◌≡◌};
+ghost use Rattle.std.specs.Prelude.{◌≡◌, []};
+ghost use Rattle.hare_types.specs.Store.{empty};
 
 use anyhow::Result;
 use hare_types::TypeStore;
@@ -19,7 +20,10 @@ pub struct Table {
 
 impl Table {
     /// No types.
-    pub fn new(alloc: Global) -> Table {
+    pub fn new(alloc: Global) -> Table
+        ensures types { result.store ≡ empty }
+        ensures names { result.names.items ≡ [] }
+    {
         Table {
             alloc,
             store: TypeStore::new(alloc),

@@ -1,11 +1,17 @@
 //! Words and marks of spelled types.
 
+ghost use Rattle.std.specs.Prelude.{◌≡◌, IfOk};
+ghost use Rattle.hare_tree.specs.Node.{head};
+ghost use Rattle.spelled_types.specs.Words.{word_of, is_type_kind};
+
 use anyhow::{Context, Result, bail};
 use hare_tree::{Kids, Kind, Tree};
 use hare_types::Scalar;
 
 /// The type that is written by this word.
-pub fn scalar(word: &[u8]) -> Result<Scalar> {
+pub fn scalar(word: &[u8]) -> Result<Scalar>
+    ensures { IfOk result (λ k. word_of k ≡ word.now) }
+{
     Ok(match word {
         b"void" => Scalar::Void,
         b"never" => Scalar::Never,
@@ -29,7 +35,9 @@ pub fn scalar(word: &[u8]) -> Result<Scalar> {
 }
 
 /// The word by which the type is written.
-pub fn word(k: Scalar) -> &'static str {
+pub fn word(k: Scalar) -> &'static str
+    ensures { result.now ≡ word_of k }
+{
     match k {
         Scalar::Void => "void",
         Scalar::Never => "never",
@@ -60,7 +68,9 @@ pub(crate) fn bears_type(kind: Kind) -> bool {
 }
 
 /// What a tree's own token says.
-pub fn text(tree: &Tree) -> Result<&str> {
+pub fn text(tree: &Tree) -> Result<&str>
+    ensures { IfOk result (λ s. s.now ≡ (head tree.now).text) }
+{
     str::from_utf8(tree.text.bytes()).context("a text that is not UTF-8")
 }
 
@@ -78,7 +88,9 @@ pub(crate) fn items(kids: &Kids) -> Result<u64> {
 }
 
 /// Whether a tree of this kind is a written type.
-pub fn is_type(kind: Kind) -> bool {
+pub fn is_type(kind: Kind) -> bool
+    ensures { result ≡ is_type_kind kind }
+{
     matches!(
         kind,
         Kind::TypeScalar
