@@ -31,8 +31,8 @@ use std::alloc::Global;
 /// that is the answer, and no name and no type is looked at. With `check`, `emit` and `run` the program of the files is checked: where it has a
 /// fault, that is the answer. `check FILES` does no more. `emit FILES` writes the IL text of the program to the output. `run [--units N]
 /// FILES [-- ARGS]` makes such a text, reads the module back from it and runs that, with the arguments and with N units, of which the last
-/// step may take more than are left: the run reads the input and writes the output as it goes. Programs of several files, and of a file that is not of the class of today, are not compiled
-/// yet: E49 at the start of the first file.
+/// step may take more than are left: the run reads the input and writes the output as it goes. Programs of several files, and of a file
+/// that is not of the class of today, are not compiled yet: E49 at the start of the first file.
 ///
 /// `exec [--units N] IL [-- ARGS]` runs the IL text of a file in the same way, and does nothing else. A file with more than 67,108,864 bytes
 /// is refused, I1, and so is any but the printed text of a valid module, I13, both at line 1, column 1.
