@@ -1,4 +1,5 @@
--- How the names that are taken stand in tables. No public clause cites them.
+-- How the names that are taken stand in tables: what `built_in`, `take_all` and `unknown_member` promise. Directory.antt looks up in such
+-- tables.
 use Rattle.std.specs.Prelude.{◌≡◌, ℕ, ◌<◌, List, [], ◌∷◌, Bool, not, ◌&&◌, ◌||◌, ◌==◌, map, find, bytes_eq, length, nat_lt, replicate, slice_set, slice_index_or, option_and_then, Option, Some, None, All, if◌then◌else◌}
 use Rattle.std.specs.List.{list_any, cons_option}
 use Rattle.hare_tree.specs.declared.place.Fault.{Fault}

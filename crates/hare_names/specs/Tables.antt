@@ -1,4 +1,4 @@
--- What the tables of a program say of a path. No public clause cites them.
+-- What the tables of a program say of a path, and meanings by places. Of this public clauses cite `meaning_at` alone, by `meaning_in`.
 use Rattle.std.specs.Prelude.{ℕ, List, [], ◌∷◌, ◌++◌, Bool, not, ◌&&◌, Option, Some, None, is_some, option_and_then, if◌then◌else◌}
 use Rattle.std.specs.Map.{lookup}
 use Rattle.hare_tree.specs.declared.token.Meaning.{Meaning}
