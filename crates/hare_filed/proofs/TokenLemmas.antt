@@ -1,5 +1,5 @@
 -- The tokens of a file stand in their order, and its trees over them.
-use Rattle.std.proofs.Common.{◌≡◌, ◌⊎◌, inl, inr, ℕ, ◌+◌, ◌<◌, List, [], ◌∷◌, ◌++◌, Bool, true, false, ◌&&◌, ◌==◌, length, get_or, refl, sym, ap, ◌∙◌, subst, suc, zero, arith, if◌then◌else◌}
+use Rattle.std.proofs.Common.{◌≡◌, ◌⊎◌, inl, inr, ℕ, ◌+◌, ◌<◌, ◌≤◌, List, [], ◌∷◌, ◌++◌, Bool, true, false, ◌&&◌, ◌==◌, length, get_or, refl, sym, ap, ◌∙◌, subst, suc, zero, arith, if◌then◌else◌}
 use Rattle.std.specs.Prelude.{Contains}
 use Rattle.std.specs.List.{list_all}
 use Rattle.std.proofs.lemmas.Bool.{and_parts, eqb-true}
@@ -14,7 +14,7 @@ use Rattle.hare_tree.specs.Spell.{spells, spell_all, spell_file, word_token}
 use Rattle.hare_tree.specs.Shape.{is_shaped, is_shaped_file}
 use Rattle.hare_tree.specs.Depth.{begins_led, is_shallow}
 use Rattle.hare_tree.specs.Grammar.{place_of, joined, joined_to, is_proper_string, string_at, unplaced, HavePlaces}
-use Rattle.hare_lex.specs.Order.{is_before, AreOfFile}
+use Rattle.hare_lex.specs.Order.{is_before, AreOfFile, AreInOrder}
 use Rattle.hare_prefixes.proofs.Outcomes.Moved.{side_moved}
 use Rattle.hare_graph.proofs.Elements.{Contains-none, Contains-cases, Contains-here, Contains-behind}
 use Rattle.hare_names.specs.Answers.{IsFileOf}
@@ -149,8 +149,8 @@ standing number tree h = record {
   high = high;
   turns = side_turns first (spells 0 (nodes_of tree.decls));
   shaped = shaped;
-  file_is = h.is_tree.file_is;
-  placed = h.is_tree.placed.decls;
+  file_is = h.file_is;
+  placed = h.stands.placed.decls;
   enough = enough;
 }
   where
@@ -164,22 +164,22 @@ standing number tree h = record {
     high = first + length (spell_all 0 tree.decls)
 
     up : Up number ws
-    up = joined-up number h.tokens (up-from number h.tokens h.in_order.of_file (λ i j d l k. h.in_order.ascend i j d l k))
+    up =
+        let o = subst (λ f. AreInOrder f h.tokens) h.file_is h.stands.in_order in
+        joined-up number h.tokens (up-from number h.tokens o.of_file (λ i j d l k. o.ascend i j d l k))
 
     shaped : list_all (is_shaped so.Decl) tree.decls ≡ true
     shaped =
-        let a = and_parts (is_shaped_file tree && list_all is_shallow tree.uses) (list_all is_shallow tree.decls) h.is_tree.fits in
+        let a = and_parts (is_shaped_file tree && list_all is_shallow tree.uses) (list_all is_shallow tree.decls) h.fits in
         let b = and_parts (is_shaped_file tree) (list_all is_shallow tree.uses) a.0 in
         (and_parts (list_all (is_shaped so.Use) tree.uses) (list_all (is_shaped so.Decl) tree.decls) b.0).1
 
-    counted : length (spell_file tree) ≡ length ws
-    counted = sym (length-map (spell_file tree) unplaced) ∙ ap length h.is_tree.spelled ∙ length-map ws unplaced
-
     enough : high < length ws
     enough =
+        let all : length (spell_file tree) ≤ length ws = h.enough in
         let a = length-append (spell_all tree.file tree.uses) (spell_all tree.file tree.decls ++ end ∷ []) in
         let b = length-append (spell_all tree.file tree.decls) (end ∷ []) in
-        omega (arith, counted, a, b, length-moved tree.file tree.uses, length-moved tree.file tree.decls)
+        omega (arith, all, a, b, length-moved tree.file tree.uses, length-moved tree.file tree.decls)
       where
         end : Token
         end = word_token tree.file tk.End []

@@ -22,7 +22,7 @@ use Rattle.hare_tree.specs.Spell.{Spelled, start_of, spell, spells, spell_all, s
 use Rattle.hare_tree.specs.Shape.{is_none, is_shaped, is_shaped_file, are_kids, kid_pieces}
 use Rattle.hare_tree.specs.Depth.{begins, begins_led, first_number, numbers_behind, place_in, is_node, is_operator, is_shallow}
 use Rattle.hare_tree.specs.Grammar.{place_of, joined, joined_to, is_proper_string, string_at, unplaced, HasPlaces, HavePlaces}
-use Rattle.hare_lex.specs.Order.{is_before, AreOfFile}
+use Rattle.hare_lex.specs.Order.{is_before, AreOfFile, AreInOrder}
 use Rattle.hare_prefixes.proofs.Outcomes.Moved.{side_moved}
 use Rattle.hare_nesting.proofs.ByTheLetter.FormKids.{has_form, have_forms, kids_have_forms, all_have_forms, node_some}
 use Rattle.hare_modules.specs.Uses.{place_of as place_of_node}
@@ -470,7 +470,7 @@ tokens-of number tree h = record {
   turns = side_turns first
       (spells 0 (nodes_of tree.decls));
   forms = all_have_forms so.Decl tree.decls shaped;
-  placed = h.is_tree.placed.decls;
+  placed = h.stands.placed.decls;
   enough = enough;
 }
   where
@@ -484,22 +484,22 @@ tokens-of number tree h = record {
     high = first + length (spell_all 0 tree.decls)
 
     up : Up number ws
-    up = joined-up number h.tokens (up-from number h.tokens h.in_order.of_file (λ i j d l k. h.in_order.ascend i j d l k))
+    up =
+        let o = subst (λ f. AreInOrder f h.tokens) h.file_is h.stands.in_order in
+        joined-up number h.tokens (up-from number h.tokens o.of_file (λ i j d l k. o.ascend i j d l k))
 
     shaped : list_all (is_shaped so.Decl) tree.decls ≡ true
     shaped =
-        let a = and_parts (is_shaped_file tree && list_all is_shallow tree.uses) (list_all is_shallow tree.decls) h.is_tree.fits in
+        let a = and_parts (is_shaped_file tree && list_all is_shallow tree.uses) (list_all is_shallow tree.decls) h.fits in
         let b = and_parts (is_shaped_file tree) (list_all is_shallow tree.uses) a.0 in
         (and_parts (list_all (is_shaped so.Use) tree.uses) (list_all (is_shaped so.Decl) tree.decls) b.0).1
 
-    counted : length (spell_file tree) ≡ length ws
-    counted = sym (length-map (spell_file tree) unplaced) ∙ ap length h.is_tree.spelled ∙ length-map ws unplaced
-
     enough : high ≤ length ws
     enough =
+        let all : length (spell_file tree) ≤ length ws = h.enough in
         let a = length-append (spell_all tree.file tree.uses) (spell_all tree.file tree.decls ++ end ∷ []) in
         let b = length-append (spell_all tree.file tree.decls) (end ∷ []) in
-        omega (arith, counted, a, b, length-moved tree.file tree.uses, length-moved tree.file tree.decls)
+        omega (arith, all, a, b, length-moved tree.file tree.uses, length-moved tree.file tree.decls)
       where
         end : Token
         end = word_token tree.file tk.End []

@@ -28,7 +28,7 @@ use Rattle.hare_names.proofs.OrderLemmas.{ordered}
 use Rattle.hare_names.proofs.SomethingLemmas.{fine-meant, fine-something}
 
 pub files-numbered : (ps : List (List ℕ)) (ts : List FileTree) → AreFiles ps ts → AreNumbered ps ts
-files-numbered ps ts h = record { paired = h.paired; numbered = λ k t e. (h.files k t e).is_tree.file_is; few_decls = h.few_decls }
+files-numbered ps ts h = record { paired = h.paired; numbered = λ k t e. (h.files k t e).file_is; few_decls = h.few_decls }
 
 -- a file of the program is one of its trees
 record Number (ts : List FileTree) (s : Source) : Type 0 where

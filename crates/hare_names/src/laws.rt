@@ -10,7 +10,7 @@ pub fn law_locals_are_in_scope()
 {}
 
 /// In a file that stands over its tokens the bindings of a declaration stand in their order: the number of a binding is how many stand
-/// before its place.
+/// before its place. So the binding that `Meaning::Local` names is told by places alone, in whatever order a reader comes to bindings.
 pub fn law_bindings_ascend()
     ensures { BindingsAscend }
 {}

@@ -30,8 +30,8 @@ pub type Files2 = Items<FileTree>;
 /// What each path of a program means; or of all violations of its names (E11 to E16) the one that counts first: that of the first file,
 /// there the one at the least place, and at one place the smaller number.
 ///
-/// There is one tree for each path, that of a file by the grammar, with its number in that order; and there are fewer than 2^32 - 1
-/// declarations, and fewer than 2^32 - 1 bindings.
+/// There is one tree for each path, in the language, which stands over tokens of the file with its number in that order; and there are
+/// fewer than 2^32 - 1 declarations, and fewer than 2^32 - 1 bindings.
 ///
 /// Takes time in proportion to the nodes of the trees, but for look-ups of names.
 pub fn resolve(alloc: Global, paths: &[Text], files: &Files2) -> Result<Names, Stop<Fault>>
