@@ -40,6 +40,13 @@ impl<'a, T: Copy> Table<'a, T> {
         self.entries.get(name).copied()
     }
 
+    /// Takes all names out, and keeps the memory. Takes time in proportion to the names.
+    pub fn clear(&mut self)
+        ensures { self.new ≡ [] }
+    {
+        self.entries.truncate(0);
+    }
+
     /// Puts a value under a name that has none. Nothing changes where it has one, or where memory is short.
     pub fn put(&mut self, name: &'a [u8], value: T) -> Result<(), AllocError>
         ensures ok { OnOk result (self.new ≡ spec.put self.old name.now value) }
@@ -50,7 +57,7 @@ impl<'a, T: Copy> Table<'a, T> {
     }
 
     /// The same. The answer is whether the name had a value before.
-    pub(crate) fn enter(&mut self, name: &'a [u8], value: T) -> Result<bool, AllocError>
+    pub fn enter(&mut self, name: &'a [u8], value: T) -> Result<bool, AllocError>
         ensures had { IfOk result (λ had. had ≡ spec.has name.now self.old) }
         ensures ok { OnOk result (self.new ≡ spec.put self.old name.now value) }
         ensures err { OnErr result (self.new ≡ self.old) }
