@@ -13,7 +13,7 @@ use Rattle.hare_modules.specs.Repeated.{repeated_behind}
 use Rattle.hare_modules.proofs.Trees.{listed-nodes_of}
 use Rattle.hare_modules.proofs.ListLemmas.{drop-there, drop-past}
 use Rattle.hare_directory.proofs.FoundLemmas.{names-symmetric}
-use Rattle.hare_names.specs.Doubling.{names_with, first_with, is_called, any_called, first_behind}
+use Rattle.hare_names.specs.Doubling.{names_with, first_with}
 use Rattle.hare_names.specs.Spots.{is_idle}
 use Rattle.hare_names.specs.Doubled.{has_names, is_named, same_text, doubled_fault, doubled_kids, doubled_in, doubled_among}
 
@@ -98,13 +98,6 @@ list_any-push p (y ∷ ys) x = by (p y) (list_any-push p ys x)
     by : (b : Bool) → list_any p (ys ++ x ∷ []) ≡ (list_any p ys || p x) → (b || list_any p (ys ++ x ∷ [])) ≡ ((b || list_any p ys) || p x)
     by true h = refl
     by false h = h
-
-take-next : {A : Type 0} (xs : List A) (i : ℕ) (x : A) → slice_get xs i ≡ Some x → take (i + 1) xs ≡ take i xs ++ x ∷ []
-take-next [] i x e = absurd cc
-take-next (y ∷ ys) zero x e = let h : y ≡ x = cc in ap (λ z. z ∷ []) h
-take-next (y ∷ ys) (suc i) x e =
-    let rest : take (suc i) ys ≡ take i ys ++ x ∷ [] = ap (λ n. take n ys) (sym (add-one i)) ∙ take-next ys i x e in
-    ap (λ n. take n (y ∷ ys)) (add-one (suc i)) ∙ ap (λ zs. y ∷ zs) rest
 
 -- what a table tells with a name more
 has-push : (x y : List ℕ) (es : List (List ℕ × Unit {0})) → has x (es ++ (y, tt) ∷ []) ≡ (has x es || bytes_eq x y)
@@ -192,87 +185,3 @@ pub doubling-done : (ts : List Node) (found first : Option Fault) (i : ℕ) (nam
 doubling-done ts found first i names l w =
     ap (λ us. fold earlier first (map doubled_fault (repeated_behind same_text w.before (filter named us)))) (sym (drop-past ts i l))
     ∙ w.left
-
--- ---- few kids, compared with one another: as with the table that their names would make
-
-abbrev names_of : List Node → List (List ℕ × Unit {0})
-names_of ts = fold names_with [] ts
-
--- what the table tells with a kid more
-has-one : (t : Node) (es : List (List ℕ × Unit {0})) (x : List ℕ) →
-    has x (names_with es t) ≡ (has x es || (named t && bytes_eq (text_of t) x))
-has-one t es x = by (named t)
-  where
-    by : (b : Bool) → has x (if b then put es (text_of t) tt else es) ≡ (has x es || (b && bytes_eq (text_of t) x))
-    by true = has-put x (text_of t) es ∙ ap (λ b. has x es || b) (names-symmetric x (text_of t))
-    by false = or-false (has x es)
-
-has-all : (ts : List Node) (es : List (List ℕ × Unit {0})) (x : List ℕ) → has x (fold names_with es ts) ≡ (has x es || any_called ts x)
-has-all [] es x = or-false (has x es)
-has-all (t ∷ ts) es x = has-all ts (names_with es t) x ∙ ap (λ b. b || any_called ts x) (has-one t es x)
-    ∙ or_assoc (has x es) (is_called t x) (any_called ts x)
-
--- the kids before are compared with, and what is left
-abbrev pub Comparing : List Node → Option Fault → ℕ → Option Fault → Type 0
-Comparing ts found i first = Doubling ts found i (names_of (take i ts)) first
-
-pub comparing-start : (ts : List Node) (found : Option Fault) → Comparing ts found 0 found
-comparing-start ts found = doubling-start ts found (names_of (take 0 ts)) (ap names_of (none-taken ts))
-  where
-    none-taken : (us : List Node) → take 0 us ≡ []
-    none-taken [] = refl
-    none-taken (u ∷ us) = refl
-
-pub comparing-on : (ts : List Node) (found first first' : Option Fault) (i : ℕ) (t : Node) → slice_get ts i ≡ Some t →
-    first' ≡ first_behind (take i ts) t first → Comparing ts found i first → Comparing ts found (i + 1) first'
-comparing-on ts found first first' i t e k w =
-    doubling-on ts found first first' i (names_of (take i ts)) (names_of (take (i + 1) ts)) t e names (k ∙ by (named t)) w
-  where
-    names : names_of (take (i + 1) ts) ≡ names_with (names_of (take i ts)) t
-    names = ap names_of (take-next ts i t e) ∙ fold-append names_with [] (take i ts) (t ∷ [])
-
-    or_found : Bool → Option Fault
-    or_found b = if b then earlier first (doubled_fault t) else first
-
-    by : (b : Bool) →
-        or_found (b && any_called (take i ts) (text_of t)) ≡ (if b then or_found (has (text_of t) (names_of (take i ts))) else first)
-    by true = ap or_found (sym (has-all (take i ts) [] (text_of t)))
-    by false = refl
-
-pub comparing-done : (ts : List Node) (found first : Option Fault) (i : ℕ) → length ts ≤ i → Comparing ts found i first →
-    first ≡ fold earlier found (doubled_kids (nodes_of ts))
-comparing-done ts found first i l w = doubling-done ts found first i (names_of (take i ts)) l w
-
--- ---- a name among the first kids, of which those from one on are left
-
-abbrev pub any_left : List Node → ℕ → ℕ → List ℕ → Bool
-any_left ts count i x = any_called (take (count - i) (drop i ts)) x
-
-any-from : (ts : List Node) (count i : ℕ) (t : Node) (x : List ℕ) → i < count → slice_get ts i ≡ Some t →
-    any_left ts count i x ≡ (is_called t x || any_left ts count (i + 1) x)
-any-from ts count i t x l e =
-    let n : count - i ≡ suc (count - (i + 1)) = omega arith in
-    ap (λ k. any_called (take k (drop i ts)) x) n
-    ∙ ap (λ us. any_called (take (suc (count - (i + 1))) us) x) (drop-there ts i t e)
-
-pub any-here : (ts : List Node) (count i : ℕ) (t : Node) (x : List ℕ) (all : Bool) → i < count → slice_get ts i ≡ Some t →
-    is_called t x ≡ true → any_left ts count i x ≡ all → true ≡ all
-any-here ts count i t x all l e h k = sym (any-from ts count i t x l e ∙ ap (λ b. b || any_left ts count (i + 1) x) h) ∙ k
-
-pub any-on : (ts : List Node) (count i : ℕ) (t : Node) (x : List ℕ) (all : Bool) → i < count → slice_get ts i ≡ Some t →
-    is_called t x ≡ false → any_left ts count i x ≡ all → any_left ts count (i + 1) x ≡ all
-any-on ts count i t x all l e h k = sym (any-from ts count i t x l e ∙ ap (λ b. b || any_left ts count (i + 1) x) h) ∙ k
-
-pub any-past : (ts : List Node) (count i : ℕ) (x : List ℕ) → length ts ≤ i → any_left ts count i x ≡ false
-any-past ts count i x l = ap (λ us. any_called (take (count - i) us) x) (drop-past ts i l) ∙ by (count - i)
-  where
-    by : (n : ℕ) → any_called (take n []) x ≡ false
-    by zero = refl
-    by (suc n) = refl
-
-pub any-done : (ts : List Node) (count i : ℕ) (x : List ℕ) → count ≤ i → any_left ts count i x ≡ false
-any-done ts count i x l = let n : count - i ≡ 0 = omega arith in ap (λ k. any_called (take k (drop i ts)) x) n ∙ by (drop i ts)
-  where
-    by : (us : List Node) → any_called (take 0 us) x ≡ false
-    by [] = refl
-    by (u ∷ us) = refl

@@ -1,6 +1,5 @@
--- Going over the kids of one tree, with the names of those before in a table, or with those before themselves. No public clause cites it.
-use Rattle.std.specs.Prelude.{ℕ, List, [], Bool, ◌&&◌, Option, bytes_eq, if◌then◌else◌}
-use Rattle.std.specs.List.{list_any}
+-- Going over the kids of one tree, with the names of those before in a table. No public clause cites it.
+use Rattle.std.specs.Prelude.{ℕ, List, [], Option, if◌then◌else◌}
 use Rattle.hare_tree.specs.declared.place.Fault.{Fault}
 use Rattle.hare_tree.specs.Node.{Node, branch, head}
 use Rattle.hare_modules.specs.Order.{earlier}
@@ -16,17 +15,6 @@ names_with names t = if is_named (head t).kind then put names (text_of t) tt els
 abbrev pub first_with : List (List ℕ × Unit {0}) → Node → Option Fault → Option Fault
 first_with names t first = if is_named (head t).kind then
     (if has (text_of t) names then earlier first (doubled_fault t) else first) else first
-
--- a parameter or a field of that name
-abbrev pub is_called : Node → List ℕ → Bool
-is_called t x = is_named (head t).kind && bytes_eq (text_of t) x
-
-abbrev pub any_called : List Node → List ℕ → Bool
-any_called ts x = list_any (λ t. is_called t x) ts
-
--- the first fault, where the kid may have a name of kids before it
-abbrev pub first_behind : List Node → Node → Option Fault → Option Fault
-first_behind before t first = if is_named (head t).kind && any_called before (text_of t) then earlier first (doubled_fault t) else first
 
 -- E12 at the kids of a tree, and not deeper
 abbrev pub doubled_own : Node → List Fault

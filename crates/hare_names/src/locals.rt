@@ -1,44 +1,41 @@
 //! The locals that are visible.
 
-ghost use Rattle.std.specs.Prelude.{◌≡◌, ◌-◌, ◌∷◌, [], length, drop, reverse, map, OnOk, OnErr};
+ghost use Rattle.std.specs.Prelude.{◌≡◌, ◌-◌, ◌∷◌, [], length, drop, OnOk, OnErr};
 ghost use Rattle.hare_blocks.specs.Scopes.{number_of};
-ghost use Rattle.hare_names.specs.LocalParts.{local_of};
 
-use hare_blocks::Scope;
+use indexmap::IndexMap;
 use std::alloc::{AllocError, Global};
 use std::marker::Model;
 
-/// How many locals are looked at one by one.
-const FEW: usize = 8;
-
-// A local, with the number of its binding.
+// A local, with the number of its binding. The entry of its name in the map told the number that it hides before.
 #[derive(Clone, Copy)]
 struct Local<'a> {
     name: &'a [u8],
     number: u32,
+    entry: usize,
+    hidden: Option<u32>,
 }
 
 /// The locals that are visible at a place, each with the number of its binding, the newest first.
 ///
-/// A newer one hides the earlier ones of its name until it is forgotten. The oldest few are kept in a list of names that are borrowed, and
-/// are looked at one by one; those behind them are kept in a table. So to find a name takes constant expected time, and little where there
-/// are few.
+/// A newer one hides the earlier ones of its name until it is forgotten. A map tells of each name the number of its newest local, so that
+/// to find one takes constant expected time. Names are borrowed. They stay in the map when their locals are forgotten, and each local
+/// knows where its name's entry stands, so that no name is looked up and no memory taken then.
 #[derive(Drop)]
 pub struct Locals<'a> {
-    few: Vec<Local<'a>>,
-    more: Scope,
-    count: usize,
+    newest: IndexMap<&'a [u8], Option<u32>>,
+    locals: Vec<Local<'a>>,
 }
 
 impl<'a> Model for Locals<'a> {
-    ghost use Rattle.std.specs.Prelude.{◌≡◌, List, ℕ, ◌+◌, ◌++◌, length, reverse, map};
-    ghost use Rattle.hare_names.specs.LocalParts.{local_of};
+    ghost use Rattle.std.specs.Prelude.{List, ℕ};
+    ghost use Rattle.hare_names.specs.LocalParts.{locals_of, AreTold};
 
     ghost Value = { List (List ℕ × ℕ) };
 
-    ghost view = { λ a. a.more ++ map local_of (reverse a.few.items) };
+    ghost view = { λ a. locals_of a.locals.items };
 
-    ghost invariant = { λ a. a.count ≡ length a.more + length a.few.items };
+    ghost invariant = { λ a. AreTold (λ k. k.now) a.newest.entries a.locals.items };
 }
 
 impl<'a> Locals<'a> {
@@ -47,9 +44,8 @@ impl<'a> Locals<'a> {
         ensures { result ≡ [] }
     {
         Locals {
-            few: Vec::new(alloc),
-            more: Scope::new(alloc),
-            count: 0,
+            newest: IndexMap::new(alloc),
+            locals: Vec::new(alloc),
         }
     }
 
@@ -57,12 +53,9 @@ impl<'a> Locals<'a> {
     pub fn find(&self, name: &[u8]) -> Option<u32>
         ensures { result ≡ number_of name.now self.now }
     {
-        if self.few.len() == self.count {
-            return number_among(self.few.as_slice(), name);
-        }
-        match self.more.find(name) {
-            Some(number) => Some(number),
-            None => number_among(self.few.as_slice(), name),
+        match self.newest.get(name) {
+            Some(number) => *number,
+            None => None,
         }
     }
 
@@ -71,15 +64,14 @@ impl<'a> Locals<'a> {
         ensures ok { OnOk result (self.new ≡ (name.now, number) ∷ self.old) }
         ensures err { OnErr result (self.new ≡ self.old) }
     {
-        let Some(count) = self.count.checked_add(1) else {
-            return Err(AllocError);
-        };
-        if self.few.len() == self.count && self.count < FEW {
-            self.few.push(Local { name, number })?;
-        } else {
-            self.more.declare(name, number)?;
-        }
-        self.count = count;
+        self.locals.reserve(1)?;
+        let (entry, before) = self.newest.insert_full(name, Some(number))?;
+        self.locals.push_reserved(Local {
+            name,
+            number,
+            entry,
+            hidden: before.flatten(),
+        });
         Ok(())
     }
 
@@ -87,30 +79,24 @@ impl<'a> Locals<'a> {
     pub fn mark(&self) -> usize
         ensures { result ≡ length self.now }
     {
-        self.count
+        self.locals.len()
     }
 
     /// Forgets all but the `mark` oldest locals. Takes no memory.
     pub fn back_to(&mut self, mark: usize)
         ensures { self.new ≡ drop (length self.old - mark) self.old }
     {
-        if mark < self.count {
-            self.more.back_to(mark.saturating_sub(self.few.len()));
-            self.few.truncate(mark);
-            self.count = mark;
+        while self.mark() > mark {
+            self.forget_newest();
         }
     }
-}
 
-/// The number of the newest of these locals, which stand the oldest first, that has the name.
-fn number_among(locals: &[Local<'_>], name: &[u8]) -> Option<u32>
-    ensures { result ≡ number_of name.now (map local_of (reverse locals.now)) }
-{
-    let mut found = None;
-    for local in locals {
-        if local.name == name {
-            found = Some(local.number);
+    // Forgets the newest local, if there is one.
+    fn forget_newest(&mut self)
+        ensures { self.new ≡ drop 1 self.old }
+    {
+        if let Some(local) = self.locals.pop() {
+            self.newest[local.entry] = local.hidden;
         }
     }
-    found
 }

@@ -13,6 +13,7 @@ ghost use Rattle.hare_names.specs.Noted as noted;
 ghost use Rattle.hare_names.specs.Doubled as names;
 ghost use Rattle.hare_names.specs.Answers.{AreFiles, StopsAtFirst, meaning_in};
 
+use crate::doubled::{Doubled, doubled_from};
 use crate::locals::Locals;
 use crate::names::Names;
 use crate::notes::Notes;
@@ -50,26 +51,25 @@ pub fn resolve(alloc: Global, paths: &[Text], files: &Files2) -> Result<Names, S
         places: Rising::new(alloc),
         first: None,
     };
-    let mut others = first;
-    note_files(alloc, &directory, &mut notes, &mut others, files)?;
-    match earlier_of(others, notes.first) {
+    let mut doubled = doubled_from(alloc, first);
+    note_files(alloc, &directory, &mut notes, &mut doubled, files)?;
+    match earlier_of(doubled.first, notes.first) {
         Some(fault) => Err(Stop::Fault(fault)),
         None => Ok(Names::new(notes.places)),
     }
 }
 
-/// Notes the declarations of all files. `doubled` becomes the fault that counts first of it, if it is one, and of those at the later of
-/// equal names of parameters or fields.
-fn note_files(
+/// Notes the declarations of all files. `doubled` takes in the violations at equal names of parameters or fields.
+fn note_files<'a>(
     alloc: Global,
     directory: &Directory<'_>,
     notes: &mut Notes,
-    doubled: &mut Option<Fault>,
-    files: &Files2,
+    doubled: &mut Doubled<'a>,
+    files: &'a Files2,
 ) -> Result<(), AllocError>
     requires { sum_by (λ t. bindings_among (nodes_of t.decls)) files.now < 2 ^ 32 }
     ensures noted { OnOk result (notes.new ≡ noted.files_noted (tables_of directory.now) 0 notes.old files.now) }
-    ensures doubled { OnOk result (doubled.new ≡ fold earlier doubled.old (flat_map names.doubled_names files.now)) }
+    ensures doubled { OnOk result (doubled.new.first ≡ fold earlier doubled.old.first (flat_map names.doubled_names files.now)) }
 {
     for file in 0..files.len() {
         let Some(tree) = files.get(file) else {
@@ -77,28 +77,28 @@ fn note_files(
         };
         let decls = &tree.decls;
         let setting = Setting {
-            alloc,
             directory: &*directory,
             file,
         };
-        note_decls(setting, notes, doubled, decls)?;
+        note_decls(alloc, setting, notes, doubled, decls)?;
     }
     Ok(())
 }
 
 /// The same of the declarations of a file.
-fn note_decls(
+fn note_decls<'a>(
+    alloc: Global,
     setting: Setting<'_>,
     notes: &mut Notes,
-    doubled: &mut Option<Fault>,
-    decls: &Kids,
+    doubled: &mut Doubled<'a>,
+    decls: &'a Kids,
 ) -> Result<(), AllocError>
     requires { bindings_among (nodes_of decls.now) < 2 ^ 32 }
     ensures noted { OnOk result (notes.new ≡ fold (noted.decl_noted (tables_of setting.entry.directory.now) setting.entry.file) notes.old
         decls.now) }
-    ensures doubled { OnOk result (doubled.new ≡ fold earlier doubled.old (flat_map names.doubled_in decls.now)) }
+    ensures doubled { OnOk result (doubled.new.first ≡ fold earlier doubled.old.first (flat_map names.doubled_in decls.now)) }
 {
-    let mut locals = Locals::new(setting.alloc);
+    let mut locals = Locals::new(alloc);
     for i in 0..decls.len() {
         let Some(decl) = decls.get(i) else {
             return Ok(());
@@ -113,14 +113,14 @@ fn note_decl<'a>(
     setting: Setting<'_>,
     locals: &mut Locals<'a>,
     notes: &mut Notes,
-    doubled: &mut Option<Fault>,
+    doubled: &mut Doubled<'a>,
     decl: &'a Tree,
 ) -> Result<(), AllocError>
     requires room { bindings_in decl.now < 2 ^ 32 }
     requires none { locals.old ≡ [] }
     ensures none { OnOk result (locals.new ≡ []) }
     ensures noted { OnOk result (notes.new ≡ noted.decl_noted (tables_of setting.entry.directory.now) setting.entry.file notes.old decl.now) }
-    ensures doubled { OnOk result (doubled.new ≡ fold earlier doubled.old (names.doubled_in decl.now)) }
+    ensures doubled { OnOk result (doubled.new.first ≡ fold earlier doubled.old.first (names.doubled_in decl.now)) }
 {
     walk(setting, locals, notes, doubled, decl, 0)?;
     locals.back_to(0);

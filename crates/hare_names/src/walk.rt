@@ -12,7 +12,7 @@ ghost use Rattle.hare_names.specs.Scopes as scopes;
 ghost use Rattle.hare_names.specs.Spots as spec;
 ghost use Rattle.hare_names.specs.Doubled as names;
 
-use crate::doubled::first_doubled;
+use crate::doubled::{Doubled, find_doubled};
 use crate::kinds::{is_binding, is_for_each, is_idle_kind, is_params, is_type_path, is_value_path};
 use crate::locals::Locals;
 use crate::notes::Notes;
@@ -20,25 +20,24 @@ use crate::verdict::{Verdict, judge};
 use hare_directory::Directory;
 use hare_modules::earlier;
 use hare_tree::{Fault, Kids, Place, Tree};
-use std::alloc::{AllocError, Global};
+use std::alloc::AllocError;
 
 /// A file of a program, by its number, with what modules declare and files import.
 #[derive(Clone, Copy)]
 pub struct Setting<'a> {
-    pub alloc: Global,
     pub directory: &'a Directory<'a>,
     pub file: usize,
 }
 
 /// Notes the paths of a tree, before which so many bindings of its declaration stand. The answer is how many stand behind it; then what it
-/// binds is visible. Together they are fewer than 2^32. `doubled` becomes the fault that counts first of it, if it is one, and of those at
-/// the later of equal names of parameters or fields in the tree. It fails for want of memory alone.
+/// binds is visible. Together they are fewer than 2^32. `doubled` takes in the violations at equal names of parameters or fields in the
+/// tree. It fails for want of memory alone.
 #[cycle(walk)]
 pub fn walk<'a>(
     setting: Setting<'_>,
     locals: &mut Locals<'a>,
     notes: &mut Notes,
-    doubled: &mut Option<Fault>,
+    doubled: &mut Doubled<'a>,
     t: &'a Tree,
     before: u32,
 ) -> Result<u32, AllocError>
@@ -47,10 +46,10 @@ pub fn walk<'a>(
     ensures locals { OnOk result (locals.new ≡ scopes.bound_by before t.now ++ locals.old) }
     ensures notes { OnOk result (notes.new ≡ fold (spec.noted (tables_of setting.entry.directory.now) setting.entry.file) notes.old
         (spec.spots_in before locals.old t.now)) }
-    ensures doubled { OnOk result (doubled.new ≡ fold earlier doubled.old (names.doubled_in t.now)) }
+    ensures doubled { OnOk result (doubled.new.first ≡ fold earlier doubled.old.first (names.doubled_in t.now)) }
 {
     note(setting, locals, notes, t)?;
-    first_doubled(setting.alloc, t, doubled)?;
+    find_doubled(doubled, t)?;
     let binds = is_binding(t.kind);
     let first = if binds { before + 1 } else { before };
     let mark = locals.mark();
@@ -74,7 +73,7 @@ fn walk_kids<'a>(
     setting: Setting<'_>,
     locals: &mut Locals<'a>,
     notes: &mut Notes,
-    doubled: &mut Option<Fault>,
+    doubled: &mut Doubled<'a>,
     kids: &'a Kids,
     from: usize,
     before: u32,
@@ -84,7 +83,8 @@ fn walk_kids<'a>(
     ensures locals { OnOk result (locals.new ≡ scopes.bound_among before (nodes_from from (nodes_of kids.now)) ++ locals.old) }
     ensures notes { OnOk result (notes.new ≡ fold (spec.noted (tables_of setting.entry.directory.now) setting.entry.file) notes.old
         (spec.spots_among before locals.old (nodes_from from (nodes_of kids.now)))) }
-    ensures doubled { OnOk result (doubled.new ≡ fold earlier doubled.old (names.doubled_among (nodes_from from (nodes_of kids.now)))) }
+    ensures doubled { OnOk result (doubled.new.first ≡ fold earlier doubled.old.first
+        (names.doubled_among (nodes_from from (nodes_of kids.now)))) }
 {
     let mut behind = before;
     for i in from..kids.len() {
@@ -115,7 +115,7 @@ fn walk_loop<'a>(
     setting: Setting<'_>,
     locals: &mut Locals<'a>,
     notes: &mut Notes,
-    doubled: &mut Option<Fault>,
+    doubled: &mut Doubled<'a>,
     kids: &'a Kids,
     before: u32,
 ) -> Result<u32, AllocError>
@@ -124,7 +124,7 @@ fn walk_loop<'a>(
     ensures locals { OnOk result (locals.new ≡ locals.old) }
     ensures notes { OnOk result (notes.new ≡ fold (spec.noted (tables_of setting.entry.directory.now) setting.entry.file) notes.old
         (spec.spots_of_loop before locals.old (nodes_of kids.now))) }
-    ensures doubled { OnOk result (doubled.new ≡ fold earlier doubled.old (names.doubled_among (nodes_of kids.now))) }
+    ensures doubled { OnOk result (doubled.new.first ≡ fold earlier doubled.old.first (names.doubled_among (nodes_of kids.now))) }
 {
     let mark = locals.mark();
     let Some(binding) = kids.get(0) else {

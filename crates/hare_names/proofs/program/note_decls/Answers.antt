@@ -17,13 +17,13 @@ loop-i-preserved c = record {
   none = c.in_ok-note_decl.ensures.none;
   noted = decls-on (tables_of c.args.setting.directory.now) c.args.setting.file c.args.decls.now c.loop-i.i c.in-Some.decl.now
       c.loop-i.notes c.note_decl.new.notes _ c.in-Some.ensures.found c.in_ok-note_decl.ensures.noted c.loop-i.invariant.noted;
-  doubled = faults-on doubled_in c.args.decls.now c.loop-i.i c.in-Some.decl.now c.loop-i.doubled c.note_decl.new.doubled _
+  doubled = faults-on doubled_in c.args.decls.now c.loop-i.i c.in-Some.decl.now c.loop-i.doubled.first c.note_decl.new.doubled.first _
       c.in-Some.ensures.found c.in_ok-note_decl.ensures.doubled c.loop-i.invariant.doubled;
 }
 
 pub returns-clause-doubled : goal.returns-clause-doubled
 returns-clause-doubled c =
-    faults-done doubled_in c.args.decls.now c.loop-i.i c.loop-i.doubled _ (omega arith) c.loop-i.invariant.doubled
+    faults-done doubled_in c.args.decls.now c.loop-i.i c.loop-i.doubled.first _ (omega arith) c.loop-i.invariant.doubled
 
 pub returns-clause-noted : goal.returns-clause-noted
 returns-clause-noted c =

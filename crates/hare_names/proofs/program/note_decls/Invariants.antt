@@ -12,6 +12,6 @@ invariant-loop-i l = record {
   none : l.locals ≡ [];
   noted : fold (decl_noted (tables_of l.setting.directory.now) l.setting.file) l.notes (drop l.i l.decls) ≡ fold
       (decl_noted (tables_of l.setting.directory.now) l.setting.file) l.initial.notes l.decls;
-  doubled : fold earlier l.doubled (flat_map doubled_in (drop l.i l.decls)) ≡ fold earlier l.initial.doubled
+  doubled : fold earlier l.doubled.first (flat_map doubled_in (drop l.i l.decls)) ≡ fold earlier l.initial.doubled.first
       (flat_map doubled_in l.decls);
 }

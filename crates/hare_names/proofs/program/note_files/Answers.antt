@@ -17,8 +17,8 @@ pub loop-file-preserved : goal.loop-file-preserved
 loop-file-preserved c = record {
   noted = files-on (tables_of c.args.directory.now) c.args.files.now c.loop-file.file c.in-Some.tree.now c.loop-file.notes
       c.note_decls.new.notes _ (sym c.in-Some.ensures) c.in_ok-note_decls.ensures.noted c.loop-file.invariant.noted;
-  doubled = faults-on doubled_names c.args.files.now c.loop-file.file c.in-Some.tree.now c.loop-file.doubled c.note_decls.new.doubled _
-      (sym c.in-Some.ensures) c.in_ok-note_decls.ensures.doubled c.loop-file.invariant.doubled;
+  doubled = faults-on doubled_names c.args.files.now c.loop-file.file c.in-Some.tree.now c.loop-file.doubled.first
+      c.note_decls.new.doubled.first _ (sym c.in-Some.ensures) c.in_ok-note_decls.ensures.doubled c.loop-file.invariant.doubled;
 }
 
 pub returns-clause-noted : goal.returns-clause-noted
@@ -26,5 +26,5 @@ returns-clause-noted c = files-done (tables_of c.args.directory.now) c.args.file
     (omega arith) c.loop-file.invariant.noted
 
 pub returns-clause-doubled : goal.returns-clause-doubled
-returns-clause-doubled c = faults-done doubled_names c.args.files.now c.loop-file.file c.loop-file.doubled _
+returns-clause-doubled c = faults-done doubled_names c.args.files.now c.loop-file.file c.loop-file.doubled.first _
     (omega arith) c.loop-file.invariant.doubled

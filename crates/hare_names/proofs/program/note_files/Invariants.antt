@@ -11,6 +11,6 @@ abbrev pub invariant-loop-file : goal.invariant-loop-file
 invariant-loop-file l = record {
   noted : files_noted (tables_of l.directory) l.file l.notes (drop l.file l.files) ≡ files_noted
       (tables_of l.directory) 0 l.initial.notes l.files;
-  doubled : fold earlier l.doubled (flat_map doubled_names (drop l.file l.files)) ≡ fold earlier l.initial.doubled
+  doubled : fold earlier l.doubled.first (flat_map doubled_names (drop l.file l.files)) ≡ fold earlier l.initial.doubled.first
       (flat_map doubled_names l.files);
 }

@@ -24,7 +24,7 @@ walk_kids-loop-i-preserved t c =
     record {
       walking = walking-on _ _ _ _ _ _ _ c.in-Some.kid.now _ _ _ _ _ _ _ here c.in_ok-behind.ensures.count
           c.in_ok-behind.ensures.locals c.in_ok-behind.ensures.notes c.loop-i.invariant.walking;
-      doubled = among-on c.loop-i.doubled c.walk.new.doubled _ c.in-Some.kid.now _ _ here c.in_ok-behind.ensures.doubled
+      doubled = among-on c.loop-i.doubled.first c.walk.new.doubled.first _ c.in-Some.kid.now _ _ here c.in_ok-behind.ensures.doubled
           c.loop-i.invariant.doubled;
     }
 
@@ -35,8 +35,8 @@ walk_kids-loop-i-preserved-then-is_idle t c =
     let idle = sym c.is_idle.ensures ∙ c.if-is_idle.true in
     record {
       walking = walking-past _ _ _ _ _ _ _ c.in-Some.kid.now _ _ _ _ here idle c.loop-i.invariant.walking;
-      doubled = among-on c.loop-i.doubled c.loop-i.doubled _ c.in-Some.kid.now _ _ here
-          (doubled-idle c.in-Some.kid.now c.loop-i.doubled idle) c.loop-i.invariant.doubled;
+      doubled = among-on c.loop-i.doubled.first c.loop-i.doubled.first _ c.in-Some.kid.now _ _ here
+          (doubled-idle c.in-Some.kid.now c.loop-i.doubled.first idle) c.loop-i.invariant.doubled;
     }
 
 pub walk_kids-returns-clause-count : goal.walk_kids-returns-clause-count
@@ -52,7 +52,7 @@ walk_kids-returns-clause-notes t c = (walking-done _ _ _ _ _ _ _ _ _ _
     (nodes_from-past c.args.kids.now c.loop-i.i (omega arith)) c.loop-i.invariant.walking).noted_is
 
 pub walk_kids-returns-clause-doubled : goal.walk_kids-returns-clause-doubled
-walk_kids-returns-clause-doubled t c = among-done c.loop-i.doubled _ _
+walk_kids-returns-clause-doubled t c = among-done c.loop-i.doubled.first _ _
     (nodes_from-past c.args.kids.now c.loop-i.i (omega arith)) c.loop-i.invariant.doubled
 
 pub walk_loop-walk-requires : goal.walk_loop-walk-requires
@@ -77,7 +77,7 @@ walk_loop-returns-in_default-get-clause-notes t c =
 
 pub walk_loop-returns-in_default-get-clause-doubled : goal.walk_loop-returns-in_default-get-clause-doubled
 walk_loop-returns-in_default-get-clause-doubled t c =
-    doubled-one c.args.doubled.now c.walk.new.doubled (nodes_of c.args.kids.now) c.in-Some.binding.now
+    doubled-one c.args.doubled.now.first c.walk.new.doubled.first (nodes_of c.args.kids.now) c.in-Some.binding.now
     (one-kid c.args.kids.now c.in-Some.binding.now c.in-Some.ensures.found c.in_default-get.ensures.none) c.in_ok-behind.ensures.doubled
 
 pub walk_loop-walk-requires-2 : goal.walk_loop-walk-requires-2
@@ -139,7 +139,7 @@ walk_loop-returns-clause-notes t c =
 
 pub walk_loop-returns-clause-doubled : goal.walk_loop-returns-clause-doubled
 walk_loop-returns-clause-doubled t c =
-    doubled-two c.args.doubled.now c.walk.new.doubled c.walk-2.new.doubled c.walk_kids.new.doubled (nodes_of c.args.kids.now)
-    c.in-Some.binding.now c.in-Some-get.over.now (nodes_from 2 (nodes_of c.args.kids.now))
+    doubled-two c.args.doubled.now.first c.walk.new.doubled.first c.walk-2.new.doubled.first c.walk_kids.new.doubled.first
+    (nodes_of c.args.kids.now) c.in-Some.binding.now c.in-Some-get.over.now (nodes_from 2 (nodes_of c.args.kids.now))
     (two-kids c.args.kids.now c.in-Some.binding.now c.in-Some-get.over.now c.in-Some.ensures.found c.in-Some-get.ensures.found)
     c.in_ok-behind.ensures.doubled c.in_ok-behind-2.ensures.doubled c.in_ok-behind-3.ensures.doubled

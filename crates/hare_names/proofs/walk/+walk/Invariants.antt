@@ -20,6 +20,6 @@ abbrev pub invariant-walk_kids-loop-i : goal.invariant-walk_kids-loop-i
 invariant-walk_kids-loop-i l = record {
   walking : Walking (tables_of l.setting.directory.now) l.setting.file l.before l.initial.locals l.initial.notes
       (nodes_from l.from (nodes_of l.kids)) (nodes_from l.i (nodes_of l.kids)) l.behind l.locals l.notes;
-  doubled : fold earlier l.doubled (doubled_among (nodes_from l.i (nodes_of l.kids))) ≡ fold earlier l.initial.doubled
+  doubled : fold earlier l.doubled.first (doubled_among (nodes_from l.i (nodes_of l.kids))) ≡ fold earlier l.initial.doubled.first
       (doubled_among (nodes_from l.from (nodes_of l.kids)));
 }

@@ -1,9 +1,9 @@
 use Rattle.std.proofs.Common.{arith}
 use Rattle.hare_names.proofs.DoubledLemmas.{doubling-start, doubling-on, doubling-done}
-use Rattle.hare_names.proofs.doubled.doubled_many.Goals as goal
+use Rattle.hare_names.proofs.doubled.doubled_kids.Goals as goal
 
 pub loop-i-init : goal.loop-i-init
-loop-i-init c = doubling-start c.args.kids.now c.args.found c.new-names.result c.new-names.ensures
+loop-i-init c = doubling-start c.args.kids.now c.args.found c.clear.new.self c.clear.ensures
 
 pub loop-i-preserved : goal.loop-i-preserved
 loop-i-preserved c =
