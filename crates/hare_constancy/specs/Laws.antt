@@ -7,8 +7,7 @@ use Rattle.hare_types.specs.Store.{Store}
 use Rattle.hare_types.specs.Sound.{IsStore}
 use Rattle.hare_types.specs.ByIds.{row_at}
 use Rattle.hare_typed.specs.Typed.{TypedNode, TypedNodes, marked, typed_none, typed_more}
-use Rattle.hare_typed.specs.Settled.{PlainKind}
-use Rattle.hare_typed.specs.Settled.{IsSettled}
+use Rattle.hare_typed.specs.Settled.{PlainKind, IsSettled}
 use Rattle.hare_rules.specs.Context.{Setting, declaration}
 use Rattle.hare_rules.specs.Operators.{declares_type}
 use Rattle.hare_constancy.specs.Measured.{AreMeasured}

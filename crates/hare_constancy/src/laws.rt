@@ -7,8 +7,8 @@ ghost use Rattle.hare_constancy.specs.Ready.{AskedValuesAreReady, DeclaredValues
 ghost use Rattle.hare_constancy.specs.Texts.{WellTreesAreTraced, AskedTreesAreTraced, TracedTextsAreTold};
 ghost use Rattle.hare_constancy.specs.Well.{WellTreesAreMet, AskedTreesAreMet};
 
-/// The constant of a tree can be told of which each node meets its rows and each type is known and small enough, where the texts that it
-/// compares are told and what it takes addresses of are places.
+/// The constant of a tree can be told of which each node meets its rows and each type is known and small enough, where its numbers and
+/// runes are below 2^127, the texts that it compares are told, and the names of types in the store are those of declared types.
 pub fn law_met_trees_are_settled()
     ensures { MetTreesAreSettled }
 {}
