@@ -28,10 +28,12 @@ use Rattle.il_code.specs.declared.types.Jump.TheVariants as jump
 use Rattle.il_code.specs.declared.types.Phi.{Phi}
 use Rattle.il_code.specs.Machine.{assigned, block_assigned, all_assigned, is_among, distinct}
 use Rattle.il_code.specs.Step.{taken}
-use Rattle.il_tight.proofs.Kept.{kept, staying}
+use Rattle.il_tight.specs.Tight.{staying, unset}
+use Rattle.il_tight.proofs.Kept.{kept}
+use Rattle.il_tight.proofs.Lacking.{Settles, unset_passes}
 use Rattle.il_tight.proofs.Light.{price}
 use Rattle.il_tight.proofs.Passing.{kept_pass}
-use Rattle.il_tight.proofs.Twins.{Plain, plain_kept}
+use Rattle.il_tight.proofs.Twins.{Plain, plain_append, plain_kept, unset_plain}
 use Rattle.il_tight.proofs.Wholes.{price_is}
 use Rattle.il_emit.specs.Names.{temp_name, address_name, frame_name, label_name}
 use Rattle.il_emit.specs.Lines.{Line, End, all_addressed, addresses_in, addresses_in_all, labels_in, frame_lines, inner_lines, end_value, result_param}
@@ -229,10 +231,13 @@ module _ (p : FlatProgram) (f : FlatFn) (right : is_right p f 0 (code_of f.body)
   frame_lines_known (suc n) = both_true _ true (both_true _ true frame_known refl) refl
 
   abbrev stays : List ℕ → Bool
-  stays = staying (params_of 0 f.params) (blocks_of p f)
+  stays = staying (blocks_of p f)
+
+  abbrev last : List Block
+  last = unset (params_of 0 f.params) stays (blocks_of p f)
 
   abbrev tight_ones : List Block
-  tight_ones = kept stays (blocks_of p f)
+  tight_ones = kept stays (blocks_of p f) ++ last
 
   abbrev passing : Block → Bool
   passing b = true && (list_all good_inst b.insts && true)
@@ -258,10 +263,21 @@ module _ (p : FlatProgram) (f : FlatFn) (right : is_right p f 0 (code_of f.body)
   all_known (b ∷ bs) e h =
       let k = and_parts (passing b) (list_all passing bs) h in both_true _ _ (one_known b e.0 k.0) (all_known bs e.1 k.1)
 
+  -- a setting of a temporary to 0 assigns what was assigned before
+  settles : Settles good_inst good_inst
+  settles = record { set = λ temp class o a b h. h; call = λ r target args h. h }
+
+  last_known : list_all passing last ≡ true
+  last_known = unset_passes good_inst good_inst settles passing (λ b g. (and_parts (list_all good_inst b.insts) true g).0)
+      (params_of 0 f.params) stays (blocks_of p f) passing_known passing (λ d is e g n h. both_true (list_all good_inst is) true h refl)
+
   blocks_known : list_all (λ (b : Block). list_all is_known (block_assigned b)) tight_ones ≡ true
   blocks_known =
-      all_known tight_ones (plain_kept stays (blocks_of p f) (blocks_plain p f))
-      (kept_pass stays (λ (l : List ℕ). true) good_inst (λ (j : Jump). true) refl (blocks_of p f) passing_known)
+      all_known tight_ones
+      (plain_append (kept stays (blocks_of p f)) last (plain_kept stays (blocks_of p f) (blocks_plain p f))
+      (unset_plain (params_of 0 f.params) stays (blocks_of p f)))
+      (all_append passing (kept stays (blocks_of p f)) last
+      (kept_pass stays (λ (l : List ℕ). true) good_inst (λ (j : Jump). true) refl (blocks_of p f) passing_known) last_known)
 
   params_known : (at : ℕ) (cs : List Class) → at + length cs ≤ f.temps → list_all is_known (map (λ (p : IlParam). p.name) (params_of at cs))
       ≡ true

@@ -1,9 +1,11 @@
 -- With tight functions a module does what it did, and keeps the shape of its program.
 use Rattle.std.proofs.Common.{◌≡◌, ℕ, ◌+◌, ◌≤◌, Bool, true, false, cond, not, ◌&&◌, inl, inr, List, [], ◌∷◌, ◌++◌, map, length, Option, None, Some, refl, sym, ap, ◌∙◌, subst, arith}
-use Rattle.std.specs.Prelude.{sum_by, if◌then◌else◌}
-use Rattle.std.specs.List.{list_all}
+use Rattle.std.specs.Prelude.{bytes_eq, sum_by, if◌then◌else◌}
+use Rattle.std.specs.List.{list_all, AllByRecursion}
 use Rattle.std.proofs.lemmas.Bool.{and_parts}
+use Rattle.std.proofs.lemmas.List.Folds.{list_any-append}
 use Rattle.std.proofs.lemmas.List.Sums.{sum_by-append}
+use Rattle.hx_base.specs.declared.Class.{Class}
 use Rattle.hx_base.specs.Runtime.{World}
 use Rattle.flat_code.specs.declared.program.Data.{Data}
 use Rattle.flat_code.specs.declared.program.FlatFn.{FlatFn}
@@ -24,12 +26,16 @@ use Rattle.il_code.specs.State as il
 use Rattle.il_code.specs.State.{Done}
 use Rattle.il_code.specs.Run.{Run, after_steps, start, machine}
 use Rattle.il_code.proofs.Budgets.{run_to-after_steps}
-use Rattle.il_tight.specs.Tight.{first_stays, is_closed, tight_item, tight_module}
+use Rattle.il_tight.specs.Tight.{is_closed, zero, tight_item, tight_module}
+use Rattle.il_tight.specs.Tightness.{IsZero}
+use Rattle.il_tight.proofs.Behind.{IsZeros, zero_holds}
 use Rattle.il_tight.proofs.Kept.{into_insts, into_jump, whole, kept}
 use Rattle.il_tight.proofs.Light as light
 use Rattle.il_tight.proofs.Passing.{all_reached, into_pass, kept_pass, label_kept}
 use Rattle.il_tight.proofs.Runs.{NoPhis, functions_same, start_same, Alike, runs_alike}
-use Rattle.il_tight.proofs.Twins.{Plain, SameCode, no_code, one_code, IsWhole}
+use Rattle.il_tight.proofs.Twins.{SameCode, no_code, one_code, IsWhole}
+use Rattle.il_tight.proofs.Settings.{or_left}
+use Rattle.il_tight.proofs.Staying.{first_stays}
 use Rattle.il_tight.proofs.Valid.{values_same}
 use Rattle.il_emit.specs.Emitted.{data_item, function_item, module_of}
 use Rattle.il_emit.specs.Reaches.{SameWorld, Arrives, Overflows, Reaches}
@@ -110,6 +116,13 @@ tight_reaches p m plain h args input fill n = elim (h args input fill n) [
 -- 1 where a jump names a block that is not among these
 abbrev back : List Block → Jump → ℕ
 back behind j = if targets_pass (has_label behind) j then 0 else 1
+
+-- a test of all instructions of some blocks
+abbrev all_insts : (Inst → Bool) → List Block → Bool
+all_insts q bs = list_all (λ (b : Block). list_all q b.insts) bs
+
+abbrev no_alloc : Inst → Bool
+no_alloc i = not (is_alloc i)
 
 -- what each instruction of some blocks weighs, in all
 abbrev total : (Inst → ℕ) → List Block → ℕ
@@ -234,10 +247,6 @@ module _ (stays : List ℕ → Bool) where
   total_few : (w : Inst → ℕ) (bs : List Block) → total w (kept stays bs) ≤ total w bs
   total_few w bs = omega (arith, total_kept w false bs)
 
-  -- a test of all instructions
-  abbrev all_insts : (Inst → Bool) → List Block → Bool
-  all_insts q bs = list_all (λ (b : Block). list_all q b.insts) bs
-
   passing : (q : Inst → Bool) (bs : List Block) → all_insts q bs ≡ true →
       list_all (λ (b : Block). true && (list_all q b.insts && true)) bs ≡ true
   passing q bs h = all_more _ _ (λ (b : Block) e. both_true _ true e refl) bs h
@@ -247,45 +256,119 @@ module _ (stays : List ℕ → Bool) where
       all_more _ _ (λ (b : Block) e. (and_parts (list_all q b.insts) true e).0) (kept stays bs)
       (kept_pass stays (λ (l : List ℕ). true) q (λ (j : Jump). true) refl bs (passing q bs h))
 
-  abbrev plain : Inst → Bool
-  plain i = not (is_alloc i)
-
   placed_kept : (bs : List Block) → first_stays stays bs ≡ true → allocs_are_placed bs ≡ true →
       allocs_are_placed (kept stays bs) ≡ true
   placed_kept [] s h = refl
   placed_kept (b ∷ bs) s h =
-      let k = and_parts (list_all has_fixed_size b.insts) (all_insts plain bs) h in
-      let into = into_pass stays (λ (l : List ℕ). true) plain (λ (j : Jump). true) refl b.jump bs refl
-      (all_reached stays (λ (x : Block). true && (list_all plain x.insts && true)) (falls b.jump) bs (passing plain bs k.1)) in
+      let k = and_parts (list_all has_fixed_size b.insts) (all_insts no_alloc bs) h in
+      let into = into_pass stays (λ (l : List ℕ). true) no_alloc (λ (j : Jump). true) refl b.jump bs refl
+      (all_reached stays (λ (x : Block). true && (list_all no_alloc x.insts && true)) (falls b.jump) bs (passing no_alloc bs k.1)) in
       rw s (both_true _ _
-      (all_append has_fixed_size b.insts _ k.0 (all_more plain has_fixed_size plain_sized (into_insts stays (falls b.jump) bs) into.0))
-      (insts_kept plain bs k.1))
+      (all_append has_fixed_size b.insts _ k.0 (all_more no_alloc has_fixed_size plain_sized (into_insts stays (falls b.jump) bs) into.0))
+      (insts_kept no_alloc bs k.1))
 
--- a function with its blocks kept
-shaped_kept : (f : FlatFn) (c : il.Code) (stays : List ℕ → Bool) → IsWhole stays c.params c.blocks → IsLoose f c →
-    IsShapedAs f (record c { blocks = kept stays c.blocks })
-shaped_kept f c stays w s =
+-- ---- with settings behind
+
+-- more blocks behind have no fewer labels
+back_less : (bs last : List Block) (j : Jump) → back (bs ++ last) j ≤ back bs j
+back_less bs last j = pick (targets_pass (has_label bs) j) refl
+  where
+    there : (l : List ℕ) → has_label bs l ≡ true → has_label (bs ++ last) l ≡ true
+    there l h = list_any-append (λ (b : Block). bytes_eq b.label l) bs last ∙ or_left (has_label bs l) _ h
+
+    passed : (j' : Jump) → targets_pass (has_label bs) j' ≡ true → targets_pass (has_label (bs ++ last)) j' ≡ true
+    passed Fall h = refl
+    passed (Jmp l) h = there l h
+    passed (Jnz v x y) h = let k = and_parts (has_label bs x) (has_label bs y) h in both_true _ _ (there x k.0) (there y k.1)
+    passed (Ret v) h = refl
+    passed Hlt h = refl
+
+    one_or_none : (z : Bool) → (if z then 0 else 1) ≤ 1
+    one_or_none true = omega arith
+    one_or_none false = omega arith
+
+    pick : (z : Bool) → targets_pass (has_label bs) j ≡ z → back (bs ++ last) j ≤ back bs j
+    pick true e = let k = passed j e in rw (e, k) (omega arith)
+    pick false e = rw e (one_or_none (targets_pass (has_label (bs ++ last)) j))
+
+back_last : (last : List Block) → AllByRecursion IsZeros last → backward_jumps last ≡ 0
+back_last [] z = refl
+back_last (b ∷ bs) z =
+    let halts : back bs b.jump ≡ 0 = ap (back bs) z.0.0 in
+    let others = back_last bs z.1 in
+    omega (arith, halts, others)
+
+back_more : (bs last : List Block) → AllByRecursion IsZeros last → backward_jumps (bs ++ last) ≤ backward_jumps bs
+back_more [] last z = omega (arith, back_last last z)
+back_more (b ∷ bs) last z = let one = back_less bs last b.jump in let others = back_more bs last z in omega (arith, one, others)
+
+-- settings weigh nothing where one does
+module _ (w : Inst → ℕ) (light' : (n : List ℕ) (k : Class) → w (zero n k) ≡ 0) where
+  insts_weigh : (is : List Inst) → AllByRecursion IsZero is → sum_by w is ≡ 0
+  insts_weigh [] z = refl
+  insts_weigh (i ∷ is) z =
+      let one : w i ≡ 0 = zero_holds (λ (x : Inst). w x ≡ 0) light' i z.0 in
+      sum_cons w i is ∙ omega (arith, one, insts_weigh is z.1)
+
+  total_last : (last : List Block) → AllByRecursion IsZeros last → total w last ≡ 0
+  total_last [] z = refl
+  total_last (b ∷ bs) z =
+      sum_cons (λ (x : Block). sum_by w x.insts) b bs ∙ omega (arith, insts_weigh b.insts z.0.1, total_last bs z.1)
+
+  total_more : (bs last : List Block) → AllByRecursion IsZeros last → total w (bs ++ last) ≡ total w bs
+  total_more bs last z = sum_by-append (λ (b : Block). sum_by w b.insts) bs last ∙ omega (arith, total_last last z)
+
+-- and pass what one passes
+module _ (q : Inst → Bool) (on : (n : List ℕ) (k : Class) → q (zero n k) ≡ true) where
+  insts_pass : (is : List Inst) → AllByRecursion IsZero is → list_all q is ≡ true
+  insts_pass [] z = refl
+  insts_pass (i ∷ is) z = both_true _ _ (zero_holds (λ (x : Inst). q x ≡ true) on i z.0) (insts_pass is z.1)
+
+  last_pass : (last : List Block) → AllByRecursion IsZeros last → all_insts q last ≡ true
+  last_pass [] z = refl
+  last_pass (b ∷ bs) z = both_true _ _ (insts_pass b.insts z.0.1) (last_pass bs z.1)
+
+not_alloc : (n : List ℕ) (k : Class) → not (is_alloc (zero n k)) ≡ true
+not_alloc n k = refl
+
+placed_more : (bs last : List Block) → AllByRecursion IsZeros last → allocs_are_placed bs ≡ true → allocs_are_placed (bs ++ last) ≡ true
+placed_more [] [] z h = refl
+placed_more [] (b ∷ bs) z h =
+    both_true _ _ (insts_pass has_fixed_size (λ n k. refl) b.insts z.0.1) (last_pass no_alloc not_alloc bs z.1)
+placed_more (b ∷ bs) last z h =
+    let k = and_parts (list_all has_fixed_size b.insts) (all_insts no_alloc bs) h in
+    both_true _ _ k.0 (all_append (λ (x : Block). list_all no_alloc x.insts) bs last k.1 (last_pass no_alloc not_alloc last z))
+
+-- a function with its blocks kept, and settings behind them
+shaped_kept : (f : FlatFn) (c : il.Code) (stays : List ℕ → Bool) (last : List Block) → IsWhole stays last c.params c.blocks →
+    IsLoose f c → IsShapedAs f (record c { blocks = kept stays c.blocks ++ last })
+shaped_kept f c stays last w s =
     let ks = kept stays c.blocks in
-    let jumps : backward_jumps ks ≤ backward_jumps c.blocks = (all_back stays c.blocks).alone false w.closed in
+    let jumps : backward_jumps ks ≤ backward_jumps c.blocks = (all_back stays c.blocks).alone false w.sound.closed in
+    let more_jumps : backward_jumps (ks ++ last) ≤ backward_jumps ks = back_more ks last w.zeros in
     let taken : total takes ks ≤ total takes c.blocks = total_few stays takes c.blocks in
+    let more_taken : total takes (ks ++ last) ≡ total takes ks = total_more takes (λ n k. refl) ks last w.zeros in
     let sj = s.jumps in
     let sc = s.cost in
     record {
-      jumps = omega (arith, jumps, sj);
+      jumps = omega (arith, jumps, more_jumps, sj);
       calls = λ name.
           let calls : calls_of name ks ≤ calls_of name c.blocks = total_few stays (λ (i : Inst). cond (is_call_of name i) 1 0) c.blocks in
+          let more_calls : calls_of name (ks ++ last) ≡ calls_of name ks =
+          total_more (λ (i : Inst). cond (is_call_of name i) 1 0) (λ n k. refl) ks last w.zeros in
           let sn = s.calls name in
-          omega (arith, calls, sn);
-      allocs = placed_kept stays c.blocks w.first s.allocs;
-      unframed = λ e. insts_kept stays (λ (i : Inst). not (is_alloc i)) c.blocks (s.unframed e);
-      cost = omega (arith, w.cost, taken, sc);
+          omega (arith, calls, more_calls, sn);
+      allocs = placed_more ks last w.zeros (placed_kept stays c.blocks w.first s.allocs);
+      unframed = λ e. all_append (λ (b : Block). list_all no_alloc b.insts) ks last (insts_kept stays no_alloc c.blocks (s.unframed e))
+          (last_pass no_alloc not_alloc last w.zeros);
+      cost = omega (arith, w.cost, taken, more_taken, sc);
     }
 
 alike_kept : (o : Option FlatFn) (c c' : Option il.Code) → SameCode c c' → AreLoose o c → AreAlike o c'
 alike_kept None _ _ no_code h = h
 alike_kept (Some f) _ _ no_code h = h
-alike_kept None _ _ (one_code c stays w) h = h
-alike_kept (Some f) _ _ (one_code c stays w) h = shaped_kept f c stays w h
+alike_kept None _ _ (one_code c stays last w) h = h
+alike_kept (Some f) _ _ (one_code c stays last w) h = shaped_kept f c stays last w h
 
 outline_same : (i : IlItem) → outlined (tight_item i) ≡ outlined i
 outline_same (item.Data export name align parts) = refl

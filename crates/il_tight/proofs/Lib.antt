@@ -1,10 +1,14 @@
 pub mod Lists
+pub mod Staying
 pub mod Kept
 pub mod Light
+pub mod Behind
 pub mod Twins
 pub mod Wholes
 pub mod Runs
 pub mod Passing
 pub mod Settings
+pub mod ReadTemps
+pub mod Lacking
 pub mod Valid
 pub mod Tightness

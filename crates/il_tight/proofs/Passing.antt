@@ -220,3 +220,14 @@ module _ (stays : List ℕ → Bool) where
           ends (whole stays b (c ∷ bs) ∷ kept stays (c ∷ bs)) ≡ true
       pick true e on = rw e on
       pick false e on = rw e (skip b.jump refl e on)
+
+all_stop : (x : Block) (xs : List Block) → list_all (λ (b : Block). not (falls b.jump)) (x ∷ xs) ≡ true → ends (x ∷ xs) ≡ true
+all_stop x [] h = (and_parts (not (falls x.jump)) true h).0
+all_stop x (y ∷ xs) h = all_stop y xs (and_parts (not (falls x.jump)) _ h).1
+
+-- the same with others behind, none of which falls
+pub ends_more : (xs ys : List Block) → ends xs ≡ true → list_all (λ (b : Block). not (falls b.jump)) ys ≡ true → ends (xs ++ ys) ≡ true
+ends_more [] ys h k = cc
+ends_more (x ∷ []) [] h k = h
+ends_more (x ∷ []) (y ∷ ys) h k = all_stop y ys k
+ends_more (x ∷ z ∷ xs) ys h k = ends_more (z ∷ xs) ys h k

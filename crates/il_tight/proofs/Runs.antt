@@ -21,8 +21,8 @@ use Rattle.il_code.specs.Machine.{End, Fault, StackFull, call_cost, stack_size}
 use Rattle.il_code.specs.State.{Code, function_named, Place}
 use Rattle.il_code.specs.Step.{Step, bound}
 use Rattle.il_code.specs.Run.{Run, after_step, further, after_steps, start_world, called_first, started, start}
-use Rattle.il_tight.specs.Tight.{tight, tight_item, tight_module}
-use Rattle.il_tight.proofs.Kept.{kept, staying, tight_is}
+use Rattle.il_tight.specs.Tight.{staying, unset, tight, tight_item, tight_module}
+use Rattle.il_tight.proofs.Kept.{kept, tight_is}
 use Rattle.il_tight.proofs.Light as light
 use Rattle.il_tight.proofs.Light.{price}
 use Rattle.il_tight.proofs.Twins.{Plain, Pair, GoodPair, IsWhole, SameCode, no_code, one_code, SameStep, goes, ends, loose_state, tight_state, called_twin, nowhere_lands, step_same}
@@ -52,18 +52,17 @@ module _ (m m' : Module) (addresses : (name : List ℕ) → address m' name ≡ 
 
   -- ---- the start
 
-  first_same : (f : Code) (stays : List ℕ → Bool) → IsWhole stays f.params f.blocks → (w : World) (e : Option End) →
-      SameRun (light.called_first f w e) (called_first (record f { blocks = kept stays f.blocks }) w e)
-  first_same f stays is w e =
+  first_same : (f : Code) (stays : List ℕ → Bool) (last : List Block) → IsWhole stays last f.params f.blocks → (w : World)
+      (e : Option End) → SameRun (light.called_first f w e) (called_first (record f { blocks = kept stays f.blocks ++ last }) w e)
+  first_same f stays last is w e =
       let at = is.opens [] [] in
-      let f' : Code = record f { blocks = kept stays f.blocks } in
       let s : Pair = record {
-        active = called_twin f stays at [] stack_start (price f.params f.blocks);
+        active = called_twin f stays last at [] stack_start (price f.params f.blocks);
         waiting = [];
         world = w;
         done = [];
       } in
-      let good : GoodPair s = record { active = record { closed = is.closed; plain = is.plain; lies = at.lies }; waiting = tt } in
+      let good : GoodPair s = record { active = record { sound = is.sound; lies = at.lies }; waiting = tt } in
       go at.loose_is at.tight_is is.cost (alike 0 e s good)
     where
       frame : List Block → Place → ℕ → Run
@@ -86,7 +85,8 @@ module _ (m m' : Module) (addresses : (name : List ℕ) → address m' name ≡ 
       }
 
       go : {p q p' q' : Place} {c c' : ℕ} → p ≡ p' → q ≡ q' → c' ≡ c →
-          SameRun (frame f.blocks p' c) (frame (kept stays f.blocks) q' c) → SameRun (frame f.blocks p c) (frame (kept stays f.blocks) q c')
+          SameRun (frame f.blocks p' c) (frame (kept stays f.blocks ++ last) q' c) →
+          SameRun (frame f.blocks p c) (frame (kept stays f.blocks ++ last) q c')
       go a b d h = rw (a, b, d) h
 
 -- ---- what stands where
@@ -169,7 +169,8 @@ found_same : (export : Bool) (class : Option Class) (name : List ℕ) (params : 
 found_same export class name params blocks p =
     subst (λ (bs : List Block). SameCode (code_of (Some (Function export class name params blocks)))
     (code_of (Some (Function export class name params bs)))) (sym (tight_is params blocks))
-    (one_code (record { name = name; class = class; params = params; blocks = blocks }) (staying params blocks) (is_whole params blocks p))
+    (one_code (record { name = name; class = class; params = params; blocks = blocks }) (staying blocks)
+    (unset params (staying blocks) blocks) (is_whole params blocks p))
 
 pub functions_same : (items : List IlItem) → NoPhis items → (name : List ℕ) →
     SameCode (function_named items name) (function_named (map tight_item items) name)
@@ -199,21 +200,21 @@ module _ (m : Module) (p : NoPhis m.items) where
   started_same : (w : World) (o o' : Option Code) → SameCode o o' → SameRun (light.started w o) (started w o')
   started_same w _ _ no_code =
       first_same m (tight_module m) (address_same m) (functions_same m.items p)
-      (record { name = codes "main"; class = None; params = []; blocks = [] }) (λ l. true) (none_whole tt)
+      (record { name = codes "main"; class = None; params = []; blocks = [] }) (λ l. true) [] (none_whole tt)
       w (Some (Fault fault.Hlt))
     where
-      none_whole : Unit {0} → IsWhole (λ (l : List ℕ). true) [] []
+      none_whole : Unit {0} → IsWhole (λ (l : List ℕ). true) [] [] []
       none_whole u = record {
         opens = λ l l'. nowhere_lands (λ (x : List ℕ). true) l l';
         first = refl;
-        closed = refl;
-        plain = tt;
+        sound = record { closed = refl; plain = tt; apart = refl; sealed = refl };
+        zeros = tt;
         cost = nothing_costs;
       }
-  started_same w _ _ (one_code f stays is) =
-      subst (λ (n : ℕ). SameRun (light.started w (Some f)) (called_first (record f { blocks = kept stays f.blocks }) w
+  started_same w _ _ (one_code f stays last is) =
+      subst (λ (n : ℕ). SameRun (light.started w (Some f)) (called_first (record f { blocks = kept stays f.blocks ++ last }) w
       (if nat_lt stack_size n then Some StackFull else None))) (sym is.cost)
-      (first_same m (tight_module m) (address_same m) (functions_same m.items p) f stays is w
+      (first_same m (tight_module m) (address_same m) (functions_same m.items p) f stays last is w
       (if nat_lt stack_size (price f.params f.blocks) then Some StackFull else None))
 
   pub start_same : (args : List (List ℕ)) (input : List ℕ) (fill k : ℕ) →

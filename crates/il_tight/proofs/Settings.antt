@@ -1,7 +1,7 @@
 -- What temporaries the blocks set that stay.
 use Rattle.std.proofs.Common.{◌≡◌, ℕ, Bool, true, false, not, ◌||◌, ◌⊎◌, inl, inr, List, [], ◌∷◌, ◌++◌, Option, None, Some, refl, sym, ap, ◌∙◌}
 use Rattle.std.specs.Prelude.{bytes_eq, is_some}
-use Rattle.std.specs.List.{list_all, list_any}
+use Rattle.std.specs.List.{list_any}
 use Rattle.std.proofs.lemmas.Bool.{and_parts, or_cases}
 use Rattle.std.proofs.lemmas.List.Folds.{list_any-append}
 use Rattle.hx_base.specs.declared.Class.{Class}
@@ -9,19 +9,14 @@ use Rattle.hx_base.specs.declared.Class.TheVariants.{W, L}
 use Rattle.hx_base.specs.Runtime.{lookup}
 use Rattle.hx_table.proofs.TableLemmas.{lookup-with_entry}
 use Rattle.il_code.specs.declared.types.Block.{Block}
-use Rattle.il_code.specs.declared.types.IlArg.{IlArg}
 use Rattle.il_code.specs.declared.types.IlParam.{IlParam}
-use Rattle.il_code.specs.declared.types.IlValue.{IlValue}
-use Rattle.il_code.specs.declared.types.IlValue.TheVariants as value
 use Rattle.il_code.specs.declared.types.Inst.{Inst}
 use Rattle.il_code.specs.declared.types.Inst.TheVariants.{Set, Store, Blit, Call}
-use Rattle.il_code.specs.declared.types.Jump.{Jump}
-use Rattle.il_code.specs.declared.types.Jump.TheVariants.{Fall, Jmp, Jnz, Ret, Hlt}
 use Rattle.il_code.specs.declared.types.Phi.{Phi}
 use Rattle.il_code.specs.Rules as rule
 use Rattle.il_code.specs.Rules.{block_sets, inst_sets, is_set, same_class}
 use Rattle.il_code.specs.Shaped.{falls}
-use Rattle.il_tight.specs.Tight.{Known, is_known, with_name, assigns, block_assigns, with_setting, with_settings, with_all_settings, with_params, set_by, reached, keeps_settings, value_passes, option_passes, args_pass, inst_passes, jump_passes, block_passes}
+use Rattle.il_tight.specs.Tight.{Known, is_known, with_name, assigns, block_assigns, with_setting, with_settings, with_all_settings, with_params, set_by, reached, keeps_settings}
 use Rattle.il_tight.proofs.Kept.{into_insts, whole, kept}
 use Rattle.il_tight.proofs.Passing.{both_true}
 use Rattle.il_tight.proofs.Twins.{Plain}
@@ -55,7 +50,7 @@ none_set name class (Call None target args ∷ is) h = none_set name class is h
 none_set name class (Call (Some p) target args ∷ is) h = cc
 
 module _ (stays : List ℕ → Bool) (name : List ℕ) (class : Class) where
-  block_plain : (b : Block) → b.phis ≡ [] → block_sets name class b ≡ list_any (inst_sets name class) b.insts
+  pub block_plain : (b : Block) → b.phis ≡ [] → block_sets name class b ≡ list_any (inst_sets name class) b.insts
   block_plain b e =
       ap (λ (ps : List Phi). list_any (λ (p : Phi). rule.sets name class p.temp p.class) ps || list_any (inst_sets name class) b.insts) e
 
@@ -155,10 +150,10 @@ module _ (t : List ℕ) where
   own_class W n h = both_true _ true h refl
   own_class L n h = both_true _ true h refl
 
-  abbrev Either : Known → (Class → Bool) → Type 0
+  abbrev pub Either : Known → (Class → Bool) → Type 0
   Either known q = (is_known known t ≡ true) ⊎ AtClass q
 
-  one_setting : (known : Known) (i : Inst) → is_known (with_setting known i) t ≡ true → Either known (λ c. inst_sets t c i)
+  pub one_setting : (known : Known) (i : Inst) → is_known (with_setting known i) t ≡ true → Either known (λ c. inst_sets t c i)
   one_setting known (Set temp class op a b) h = elim (named_added known temp h) [
     | inl x ↦ inl x
     | inr x ↦ inr (record { class = class; is = own_class class temp x })
@@ -171,7 +166,7 @@ module _ (t : List ℕ) where
     | inr x ↦ inr (record { class = p.class; is = own_class p.class p.name x })
   ]
 
-  settings : (known : Known) (is : List Inst) → is_known (with_settings known is) t ≡ true →
+  pub settings : (known : Known) (is : List Inst) → is_known (with_settings known is) t ≡ true →
       Either known (λ c. list_any (inst_sets t c) is)
   settings known [] h = inl h
   settings known (i ∷ is) h = elim (settings (with_setting known i) is h) [
@@ -218,40 +213,3 @@ module _ (t : List ℕ) where
       | inl y ↦ cc
     ]
   ]
-
--- ---- what passes every test
-
-module _ (test : List ℕ → Bool) (every : (t : List ℕ) → test t ≡ true) where
-  every_value : (v : IlValue) → value_passes test v ≡ true
-  every_value (value.Number n) = refl
-  every_value (value.Temp t) = every t
-  every_value (value.Symbol s) = refl
-
-  every_option : (v : Option IlValue) → option_passes test v ≡ true
-  every_option None = refl
-  every_option (Some v) = every_value v
-
-  every_arg : (args : List IlArg) → args_pass test args ≡ true
-  every_arg [] = refl
-  every_arg (a ∷ args) = both_true _ _ (every_value a.value) (every_arg args)
-
-  every_inst : (i : Inst) → inst_passes test i ≡ true
-  every_inst (Set temp class op a b) = both_true _ _ (every_value a) (every_option b)
-  every_inst (Store width v at) = both_true _ _ (every_value v) (every_value at)
-  every_inst (Blit from to bytes) = both_true _ _ (every_value from) (every_value to)
-  every_inst (Call result target args) = every_arg args
-
-  every_jump : (j : Jump) → jump_passes test j ≡ true
-  every_jump Fall = refl
-  every_jump (Jmp l) = refl
-  every_jump (Jnz v a b) = every_value v
-  every_jump (Ret v) = every_option v
-  every_jump Hlt = refl
-
-  all_insts : (is : List Inst) → list_all (inst_passes test) is ≡ true
-  all_insts [] = refl
-  all_insts (i ∷ is) = both_true _ _ (every_inst i) (all_insts is)
-
-  pub every_block : (bs : List Block) → list_all (block_passes test) bs ≡ true
-  every_block [] = refl
-  every_block (b ∷ bs) = both_true _ _ (both_true _ _ (all_insts b.insts) (every_jump b.jump)) (every_block bs)

@@ -1,6 +1,7 @@
 -- A module on the light machine and the same one with tight functions on the machine do the same, step by step.
-use Rattle.std.proofs.Common.{◌≡◌, ℕ, ◌+◌, ◌-◌, Bool, true, false, ◌&&◌, List, [], ◌∷◌, ◌++◌, map, Option, None, Some, refl, sym, ap, ◌∙◌, subst}
+use Rattle.std.proofs.Common.{◌≡◌, ℕ, ◌+◌, ◌-◌, Bool, true, false, not, ◌&&◌, List, [], ◌∷◌, ◌++◌, map, Option, None, Some, refl, sym, ap, ◌∙◌, subst}
 use Rattle.std.specs.Prelude.{bytes_eq, max, nat_lt, Ok, Err, ◌==◌, if◌then◌else◌}
+use Rattle.std.specs.List.{AllByRecursion}
 use Rattle.std.proofs.lemmas.Bool.{and_parts}
 use Rattle.hx_base.specs.declared.Class.{Class}
 use Rattle.hx_base.specs.declared.Class.TheVariants.{W}
@@ -28,10 +29,12 @@ use Rattle.il_code.specs.Rules.{targets_pass}
 use Rattle.il_code.specs.Shaped.{falls}
 use Rattle.il_code.specs.State.{Place, place_at, start_of, blocks_from, Code, function_named, Frame, Waiting, Done, Jumped, Called, State}
 use Rattle.il_code.specs.Step.{Step, Goes, Ends, Kind, Takes, Loads, Computes, kind_of, value_of, second_value, arg_values, computed, loaded, took, taken, set_step, stored, blitted, overlap, runtime_step, runtime_call, call_step, enter, entered, bound, inst_step, returned, step}
-use Rattle.il_tight.specs.Tight.{first_stays, is_closed}
+use Rattle.il_tight.specs.Tight.{is_closed, dropped, keeps_settings, all_lacking, read_by, set_by, stops, last_block, unset}
+use Rattle.il_tight.proofs.Behind.{Sealed, Apart, IsZeros, from_apart}
 use Rattle.il_tight.proofs.Kept.{into_insts, into_jump, whole, kept}
 use Rattle.il_tight.proofs.Light as light
 use Rattle.il_tight.proofs.Light.{price}
+use Rattle.il_tight.proofs.Staying.{first_stays}
 
 -- no block has a phi
 abbrev pub Plain : List Block → Type 0
@@ -46,22 +49,45 @@ plain_kept stays (b ∷ bs) p = pick (stays b.label) (plain_kept stays bs p.1)
     pick true on = (p.0, on)
     pick false on = on
 
--- what holds of a place among the blocks of a function: the jumps behind it name labels that stay
-pub record Lies (stays : List ℕ → Bool) (jump : Jump) (behind : List Block) : Type 0 where
+pub plain_append : (xs ys : List Block) → Plain xs → Plain ys → Plain (xs ++ ys)
+plain_append [] ys p q = q
+plain_append (x ∷ xs) ys p q = (p.0, plain_append xs ys p.1 q)
+
+pub unset_plain : (params : List IlParam) (stays : List ℕ → Bool) (bs : List Block) → Plain (unset params stays bs)
+unset_plain params stays bs = pick (stops false bs && not (keeps_settings stays false bs))
+  where
+    one : (ds : List Block) (is : List Inst) → Plain (last_block ds is)
+    one [] is = tt
+    one (d ∷ ds) [] = tt
+    one (d ∷ ds) (i ∷ is) = (refl, tt)
+
+    pick : (z : Bool) → Plain (if z
+        then last_block (dropped stays false bs) (all_lacking (read_by stays bs) (set_by params stays bs) (dropped stays false bs))
+        else [])
+    pick true = one (dropped stays false bs) _
+    pick false = tt
+
+-- what holds of a place among the blocks of a function: the jumps behind it name labels that stay, and control does not fall into the
+-- tail that the tight function has behind these blocks
+pub record Lies (stays : List ℕ → Bool) (tail : List Block) (jump : Jump) (behind : List Block) : Type 0 where
   pub passes : targets_pass stays jump ≡ true
   pub closed : is_closed stays (falls jump) behind ≡ true
   pub plain : Plain behind
+  pub sealed : Sealed tail (not (falls jump)) behind
 
 -- ---- calls in both
 
--- an active call: its function's blocks, the labels that stay, and the place in them
+-- an active call: its function's blocks, the labels that stay, the last blocks of the tight function, and the place in them with the tail
+-- behind it
 pub record Twin : Type 0 where
   pub function : List ℕ
   pub blocks : List Block
   pub stays : List ℕ → Bool
+  pub last : List Block
   pub insts : List Inst
   pub jump : Jump
   pub behind : List Block
+  pub tail : List Block
   pub from : List ℕ
   pub label : List ℕ
   pub from_tight : List ℕ
@@ -83,22 +109,28 @@ loose_frame t = record {
 abbrev pub tight_frame : Twin → Frame
 tight_frame t = record {
   function = t.function;
-  blocks = kept t.stays t.blocks;
+  blocks = kept t.stays t.blocks ++ t.last;
   place =
       place_at t.from_tight t.label_tight [] (t.insts ++ into_insts t.stays (falls t.jump) t.behind) (into_jump t.stays t.jump t.behind)
-      (kept t.stays t.behind);
+      (kept t.stays t.behind ++ t.tail);
   temps = t.temps;
   pointer = t.pointer;
   cost = t.cost;
 }
 
-pub record IsGood (stays : List ℕ → Bool) (blocks : List Block) (jump : Jump) (behind : List Block) : Type 0 where
+-- what holds of the blocks of a function
+pub record IsSound (stays : List ℕ → Bool) (last blocks : List Block) : Type 0 where
   pub closed : is_closed stays false blocks ≡ true
   pub plain : Plain blocks
-  pub lies : Lies stays jump behind
+  pub apart : Apart stays last
+  pub sealed : Sealed last false blocks
+
+pub record IsGood (stays : List ℕ → Bool) (last tail blocks : List Block) (jump : Jump) (behind : List Block) : Type 0 where
+  pub sound : IsSound stays last blocks
+  pub lies : Lies stays tail jump behind
 
 abbrev pub GoodTwin : Twin → Type 0
-GoodTwin t = IsGood t.stays t.blocks t.jump t.behind
+GoodTwin t = IsGood t.stays t.last t.tail t.blocks t.jump t.behind
 
 abbrev pub AllGood : List (Twin × Option IlParam) → Type 0
 AllGood [] = Unit {0}
@@ -138,11 +170,12 @@ pub record Landing (stays : List ℕ → Bool) (l l' : List ℕ) (loose tight : 
   pub insts : List Inst
   pub jump : Jump
   pub behind : List Block
+  pub tail : List Block
   pub label : List ℕ
-  pub lies : Lies stays jump behind
+  pub lies : Lies stays tail jump behind
   pub loose_is : start_of l loose ≡ place_at l label [] insts jump behind
   pub tight_is : start_of l' tight ≡ place_at l' label [] (insts ++ into_insts stays (falls jump) behind) (into_jump stays jump behind)
-      (kept stays behind)
+      (kept stays behind ++ tail)
 
 module _ (stays : List ℕ → Bool) (l l' : List ℕ) where
   pub nowhere_lands : Landing stays l l' [] []
@@ -150,25 +183,27 @@ module _ (stays : List ℕ → Bool) (l l' : List ℕ) where
     insts = [];
     jump = Hlt;
     behind = [];
+    tail = [];
     label = [];
-    lies = record { passes = refl; closed = refl; plain = tt };
+    lies = record { passes = refl; closed = refl; plain = tt; sealed = refl };
     loose_is = refl;
     tight_is = refl;
   }
 
   -- at the start of a block that stays
-  pub block_lands : (b : Block) (bs : List Block) → b.phis ≡ [] → Plain bs → targets_pass stays b.jump ≡ true →
-      is_closed stays (falls b.jump) bs ≡ true → Landing stays l l' (b ∷ bs) (whole stays b bs ∷ kept stays bs)
-  block_lands b bs e plain passes closed = record {
+  pub block_lands : (tail : List Block) (b : Block) (bs : List Block) → b.phis ≡ [] → Lies stays tail b.jump bs →
+      Landing stays l l' (b ∷ bs) (whole stays b bs ∷ (kept stays bs ++ tail))
+  block_lands tail b bs e lies = record {
     insts = b.insts;
     jump = b.jump;
     behind = bs;
+    tail = tail;
     label = b.label;
-    lies = record { passes = passes; closed = closed; plain = plain };
+    lies = lies;
     loose_is = ap (λ (ps : List Phi). place_at l b.label ps b.insts b.jump bs) e;
     tight_is =
         ap (λ (ps : List Phi). place_at l' b.label ps (b.insts ++ into_insts stays (falls b.jump) bs) (into_jump stays b.jump bs)
-        (kept stays bs)) e;
+        (kept stays bs ++ tail)) e;
   }
 
   -- what is closed at a block that stays
@@ -177,55 +212,58 @@ module _ (stays : List ℕ → Bool) (l l' : List ℕ) where
   closed_here true b bs e h = h
   closed_here false b bs e h = rw e at h
 
-  jump_lands : (x : List ℕ) → stays x ≡ true → (into : Bool) (bs : List Block) → is_closed stays into bs ≡ true → Plain bs →
-      Landing stays l l' (blocks_from x bs) (blocks_from x (kept stays bs))
-  jump_lands x s into [] h p = nowhere_lands
-  jump_lands x s into (b ∷ bs) h p = pick (bytes_eq b.label x) refl (λ i c. jump_lands x s i bs c p.1)
-    where
-      Rest : Type 0
-      Rest = (i : Bool) → is_closed stays i bs ≡ true → Landing stays l l' (blocks_from x bs) (blocks_from x (kept stays bs))
+  module _ (last : List Block) (apart : Apart stays last) where
+    pub jump_lands : (x : List ℕ) → stays x ≡ true → (into stopped : Bool) (bs : List Block) → is_closed stays into bs ≡ true →
+        Plain bs → Sealed last stopped bs → Landing stays l l' (blocks_from x bs) (blocks_from x (kept stays bs ++ last))
+    jump_lands x s into stopped [] h p z =
+        subst (λ (ys : List Block). Landing stays l l' [] ys) (sym (from_apart stays x s last apart)) nowhere_lands
+    jump_lands x s into stopped (b ∷ bs) h p z =
+        pick (bytes_eq b.label x) refl (λ i c. jump_lands x s i (not (falls b.jump)) bs c p.1 z)
+      where
+        Rest : Type 0
+        Rest =
+            (i : Bool) → is_closed stays i bs ≡ true → Landing stays l l' (blocks_from x bs) (blocks_from x (kept stays bs ++ last))
 
-      here : stays b.label ≡ true → bytes_eq b.label x ≡ true →
-          Landing stays l l' (blocks_from x (b ∷ bs)) (blocks_from x (kept stays (b ∷ bs)))
-      here t e =
-          let k = and_parts (targets_pass stays b.jump) _ (closed_here into b bs t h) in
-          rw (t, e) (block_lands b bs p.0 p.1 k.0 k.1)
+        Goal : Type 0
+        Goal = Landing stays l l' (blocks_from x (b ∷ bs)) (blocks_from x (kept stays (b ∷ bs) ++ last))
 
-      skip : (i : Bool) → is_closed stays i (b ∷ bs) ≡ true → stays b.label ≡ false → bytes_eq b.label x ≡ false → Rest →
-          Landing stays l l' (blocks_from x (b ∷ bs)) (blocks_from x (kept stays (b ∷ bs)))
-      skip true c t e on =
-          let k = and_parts (targets_pass stays b.jump) _ c in
-          rw (t, e) (on (falls b.jump) k.1)
-      skip false c t e on =
-          let c' = rw t at c in
-          rw (t, e) (on false c')
+        here : stays b.label ≡ true → bytes_eq b.label x ≡ true → Goal
+        here t e =
+            let k = and_parts (targets_pass stays b.jump) _ (closed_here into b bs t h) in
+            rw (t, e) (block_lands last b bs p.0 (record { passes = k.0; closed = k.1; plain = p.1; sealed = z }))
 
-      past : (z : Bool) → stays b.label ≡ z → bytes_eq b.label x ≡ false → Rest →
-          Landing stays l l' (blocks_from x (b ∷ bs)) (blocks_from x (kept stays (b ∷ bs)))
-      past true t e on =
-          let k = and_parts (targets_pass stays b.jump) _ (closed_here into b bs t h) in
-          rw (t, e) (on (falls b.jump) k.1)
-      past false t e on = skip into h t e on
+        skip : (i : Bool) → is_closed stays i (b ∷ bs) ≡ true → stays b.label ≡ false → bytes_eq b.label x ≡ false → Rest → Goal
+        skip true c t e on =
+            let k = and_parts (targets_pass stays b.jump) _ c in
+            rw (t, e) (on (falls b.jump) k.1)
+        skip false c t e on =
+            let c' = rw t at c in
+            rw (t, e) (on false c')
 
-      pick : (z : Bool) → bytes_eq b.label x ≡ z → Rest →
-          Landing stays l l' (blocks_from x (b ∷ bs)) (blocks_from x (kept stays (b ∷ bs)))
-      pick true e on = here (ap stays (same_name b.label x e) ∙ s) e
-      pick false e on = past (stays b.label) refl e on
+        past : (y : Bool) → stays b.label ≡ y → bytes_eq b.label x ≡ false → Rest → Goal
+        past true t e on =
+            let k = and_parts (targets_pass stays b.jump) _ (closed_here into b bs t h) in
+            rw (t, e) (on (falls b.jump) k.1)
+        past false t e on = skip into h t e on
+
+        pick : (y : Bool) → bytes_eq b.label x ≡ y → Rest → Goal
+        pick true e on = here (ap stays (same_name b.label x e) ∙ s) e
+        pick false e on = past (stays b.label) refl e on
 
 -- ---- one step
 
 -- a function of a module, and of the one whose functions are tight
-pub record IsWhole (stays : List ℕ → Bool) (params : List IlParam) (blocks : List Block) : Type 0 where
-  pub opens : (l l' : List ℕ) → Landing stays l l' blocks (kept stays blocks)
+pub record IsWhole (stays : List ℕ → Bool) (last : List Block) (params : List IlParam) (blocks : List Block) : Type 0 where
+  pub opens : (l l' : List ℕ) → Landing stays l l' blocks (kept stays blocks ++ last)
   pub first : first_stays stays blocks ≡ true
-  pub closed : is_closed stays false blocks ≡ true
-  pub plain : Plain blocks
-  pub cost : call_cost params (kept stays blocks) ≡ price params blocks
+  pub sound : IsSound stays last blocks
+  pub zeros : AllByRecursion IsZeros last
+  pub cost : call_cost params (kept stays blocks ++ last) ≡ price params blocks
 
 pub data SameCode : Option Code → Option Code → Type 0 where
   no_code : SameCode None None
-  one_code : (f : Code) (stays : List ℕ → Bool) → IsWhole stays f.params f.blocks →
-      SameCode (Some f) (Some (record f { blocks = kept stays f.blocks }))
+  one_code : (f : Code) (stays : List ℕ → Bool) (last : List Block) → IsWhole stays last f.params f.blocks →
+      SameCode (Some f) (Some (record f { blocks = kept stays f.blocks ++ last }))
 
 abbrev pub with_temp : Pair → List ℕ → ℕ → Pair
 with_temp s temp v = let t = s.active in record s { active = record t { temps = (temp, v) ∷ t.temps } }
@@ -303,15 +341,17 @@ runtime_call_same s result None vs g = ends _
 runtime_call_same s result (Some f) vs g = runtime_same s result (act f vs s.world) g
 
 -- a call that begins
-abbrev pub called_twin : (f : Code) (stays : List ℕ → Bool) → Landing stays [] [] f.blocks (kept stays f.blocks) → List ℕ →
-    (pointer cost : ℕ) → Twin
-called_twin f stays at vs pointer cost = record {
+abbrev pub called_twin : (f : Code) (stays : List ℕ → Bool) (last : List Block) →
+    Landing stays [] [] f.blocks (kept stays f.blocks ++ last) → List ℕ → (pointer cost : ℕ) → Twin
+called_twin f stays last at vs pointer cost = record {
   function = f.name;
   blocks = f.blocks;
   stays = stays;
+  last = last;
   insts = at.insts;
   jump = at.jump;
   behind = at.behind;
+  tail = at.tail;
   from = [];
   label = at.label;
   from_tight = [];
@@ -336,17 +376,20 @@ begun s result f vs cost place = record s {
   done = Called f.name ∷ s.done;
 }
 
-module _ (s : Pair) (result : Option IlParam) (f : Code) (stays : List ℕ → Bool) (w : IsWhole stays f.params f.blocks) (vs : List ℕ)
-    (g : GoodPair s) where
-  abbrev tight_code : Code
-  tight_code = record f { blocks = kept stays f.blocks }
+module _ (s : Pair) (result : Option IlParam) (f : Code) (stays : List ℕ → Bool) (last : List Block)
+    (w : IsWhole stays last f.params f.blocks) (vs : List ℕ) (g : GoodPair s) where
+  abbrev tight_ones : List Block
+  tight_ones = kept stays f.blocks ++ last
 
-  abbrev at : Landing stays [] [] f.blocks (kept stays f.blocks)
+  abbrev tight_code : Code
+  tight_code = record f { blocks = tight_ones }
+
+  abbrev at : Landing stays [] [] f.blocks tight_ones
   at = w.opens [] []
 
   abbrev behind_call : ℕ → Pair
   behind_call cost = record {
-    active = called_twin f stays at vs s.active.pointer cost;
+    active = called_twin f stays last at vs s.active.pointer cost;
     waiting = (s.active, result) ∷ s.waiting;
     world = s.world;
     done = Called f.name ∷ s.done;
@@ -357,12 +400,11 @@ module _ (s : Pair) (result : Option IlParam) (f : Code) (stays : List ℕ → B
   entered_same cost true = ends _
   entered_same cost false =
       subst (λ (x : Place). SameStep (Goes 0 (begun (loose_state s) result f vs cost x))
-      (Goes 0 (begun (tight_state s) result tight_code vs cost (start_of [] (kept stays f.blocks))))) (sym at.loose_is)
+      (Goes 0 (begun (tight_state s) result tight_code vs cost (start_of [] tight_ones)))) (sym at.loose_is)
       (subst (λ (x : Place). SameStep
       (Goes 0 (begun (loose_state s) result f vs cost (place_at [] at.label [] at.insts at.jump at.behind)))
       (Goes 0 (begun (tight_state s) result tight_code vs cost x))) (sym at.tight_is)
-      (goes 0 (behind_call cost)
-      (record { active = record { closed = w.closed; plain = w.plain; lies = at.lies }; waiting = (g.active, g.waiting) })))
+      (goes 0 (behind_call cost) (record { active = record { sound = w.sound; lies = at.lies }; waiting = (g.active, g.waiting) })))
 
   enter_same : SameStep (light.enter (loose_state s) result f vs) (enter (tight_state s) result tight_code vs)
   enter_same =
@@ -374,7 +416,7 @@ module _ (s : Pair) (result : Option IlParam) (f : Code) (stays : List ℕ → B
 call_same : (s : Pair) (result : Option IlParam) (target : List ℕ) (o o' : Option Code) (vs : List ℕ) → SameCode o o' → GoodPair s →
     SameStep (light.call_step (loose_state s) result target o vs) (call_step (tight_state s) result target o' vs)
 call_same s result target _ _ vs no_code g = runtime_call_same s result (runtime_function target) vs g
-call_same s result target _ _ vs (one_code f stays w) g = enter_same s result f stays w vs g
+call_same s result target _ _ vs (one_code f stays last w) g = enter_same s result f stays last w vs g
 
 -- a return
 returned_same : (s : Pair) (v : ℕ) (ws : List (Twin × Option IlParam)) → AllGood ws →
@@ -397,6 +439,7 @@ landed_twin t l l' at = record t {
   insts = at.insts;
   jump = at.jump;
   behind = at.behind;
+  tail = at.tail;
   from = l;
   label = at.label;
   from_tight = l';
@@ -411,7 +454,7 @@ landed_same s x l l' xs ys g at =
     (subst (λ (p : Place). SameStep (Goes 0 (arrived (loose_state s) x (place_at l at.label [] at.insts at.jump at.behind)))
     (Goes 0 (arrived (tight_state s) x p))) (sym at.tight_is)
     (goes 0 (record s { active = landed_twin s.active l l' at; done = Jumped s.active.function x ∷ s.done })
-    (record { active = record { closed = g.active.closed; plain = g.active.plain; lies = at.lies }; waiting = g.waiting })))
+    (record { active = record { sound = g.active.sound; lies = at.lies }; waiting = g.waiting })))
 
 module _ (m m' : Module) (addresses : (name : List ℕ) → address m' name ≡ address m name)
     (functions : (name : List ℕ) → SameCode (function_named m.items name) (function_named m'.items name)) where
@@ -452,9 +495,11 @@ module _ (m m' : Module) (addresses : (name : List ℕ) → address m' name ≡ 
 
   jump_to : (s : Pair) (x : List ℕ) → GoodPair s → s.active.stays x ≡ true → (l l' : List ℕ) →
       SameStep (Goes 0 (arrived (loose_state s) x (start_of l (blocks_from x s.active.blocks))))
-      (Goes 0 (arrived (tight_state s) x (start_of l' (blocks_from x (kept s.active.stays s.active.blocks)))))
+      (Goes 0 (arrived (tight_state s) x (start_of l' (blocks_from x (kept s.active.stays s.active.blocks ++ s.active.last)))))
   jump_to s x g e l l' =
-      landed_same s x l l' _ _ g (jump_lands s.active.stays l l' x e false s.active.blocks g.active.closed g.active.plain)
+      let z = g.active.sound in
+      landed_same s x l l' _ _ g
+      (jump_lands s.active.stays l l' s.active.last z.apart x e false false s.active.blocks z.closed z.plain z.sealed)
 
   chosen_stays : (stays : List ℕ → Bool) (a b : List ℕ) (z : Bool) → (stays a && stays b) ≡ true → stays (if z then b else a) ≡ true
   chosen_stays stays a b true h = (and_parts (stays a) (stays b) h).1
@@ -476,13 +521,19 @@ module _ (m m' : Module) (addresses : (name : List ℕ) → address m' name ≡ 
         };
       }
 
-  spot_good : (s : Pair) (is : List Inst) (j : Jump) (bs : List Block) (f l f' l' : List ℕ) → GoodPair s → Lies s.active.stays j bs →
-      GoodPair (at_spot s is j bs f l f' l')
-  spot_good s is j bs f l f' l' g h =
-      record { active = record { closed = g.active.closed; plain = g.active.plain; lies = h }; waiting = g.waiting }
+  spot_good : (s : Pair) (is : List Inst) (j : Jump) (bs : List Block) (f l f' l' : List ℕ) → GoodPair s →
+      Lies s.active.stays s.active.tail j bs → GoodPair (at_spot s is j bs f l f' l')
+  spot_good s is j bs f l f' l' g h = record { active = record { sound = g.active.sound; lies = h }; waiting = g.waiting }
 
-  stepped : (s : Pair) → GoodPair s → (bs : List Block) (is : List Inst) (j : Jump) (f l f' l' : List ℕ) → Lies s.active.stays j bs →
-      Stepped (at_spot s is j bs f l f' l')
+  -- control falls out of both functions, where nothing stands behind
+  fallen_same : (s : Pair) (f l f' l' : List ℕ) (tail : List Block) → Sealed tail false [] →
+      SameStep (light.step m (record (loose_state s) { active = record (loose_frame s.active) { place = place_at f l [] [] Fall [] } }))
+      (step m' (record (tight_state s) { active = record (tight_frame s.active) { place = place_at f' l' [] [] Fall tail } }))
+  fallen_same s f l f' l' [] h = ends _
+  fallen_same s f l f' l' (b ∷ bs) h = cc
+
+  stepped : (s : Pair) → GoodPair s → (bs : List Block) (is : List Inst) (j : Jump) (f l f' l' : List ℕ) →
+      Lies s.active.stays s.active.tail j bs → Stepped (at_spot s is j bs f l f' l')
   stepped s g bs (i ∷ is) j f l f' l' h = inst_same (at_spot s is j bs f l f' l') i (spot_good s is j bs f l f' l' g h)
   stepped s g bs [] (Jmp x) f l f' l' h =
       jump_to (at_spot s [] (Jmp x) bs f l f' l') x (spot_good s [] (Jmp x) bs f l f' l' g h) h.passes l l'
@@ -496,11 +547,12 @@ module _ (m m' : Module) (addresses : (name : List ℕ) → address m' name ≡ 
       let here = at_spot s [] (Ret (Some v)) bs f l f' l' in
       rw (value_same here v) (returned_same here (value_of m (loose_state here) v) s.waiting g.waiting)
   stepped s g bs [] Hlt f l f' l' h = ends _
-  stepped s g [] [] Fall f l f' l' h = ends _
+  stepped s g [] [] Fall f l f' l' h = fallen_same s f l f' l' s.active.tail h.sealed
   stepped s g (b ∷ bs) [] Fall f l f' l' h =
       let c : (targets_pass s.active.stays b.jump && is_closed s.active.stays (falls b.jump) bs) ≡ true = h.closed in
       let k = and_parts (targets_pass s.active.stays b.jump) _ c in
-      let there : Lies s.active.stays b.jump bs = record { passes = k.0; closed = k.1; plain = h.plain.1 } in
+      let there : Lies s.active.stays s.active.tail b.jump bs =
+      record { passes = k.0; closed = k.1; plain = h.plain.1; sealed = h.sealed } in
       pick (s.active.stays b.label) refl (stepped s g bs b.insts b.jump l b.label l' b.label there)
       (stepped s g bs b.insts b.jump l b.label f' l' there)
     where
@@ -529,7 +581,7 @@ module _ (m m' : Module) (addresses : (name : List ℕ) → address m' name ≡ 
           let j = into_jump s.active.stays b.jump bs in
           let ks = kept s.active.stays bs in
           place_at f' l' [] (if z then [] else is) (if z then Fall else j)
-          (if z then record { label = b.label; phis = ps; insts = is; jump = j } ∷ ks else ks)
+          ((if z then record { label = b.label; phis = ps; insts = is; jump = j } ∷ ks else ks) ++ s.active.tail)
 
       Same : Bool → List Phi → Type 0
       Same z ps = SameStep (light.step m (loose_at (place_at l b.label ps b.insts b.jump bs))) (step m' (tight_at (place z ps)))

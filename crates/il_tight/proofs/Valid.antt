@@ -1,8 +1,9 @@
 -- A module with tight functions is valid where it was valid before.
-use Rattle.std.proofs.Common.{◌≡◌, ℕ, Bool, true, false, cond, not, ◌&&◌, ◌||◌, inl, inr, List, [], ◌∷◌, map, length, Option, None, Some, refl, sym, ap, ◌∙◌, subst, arith}
+use Rattle.std.proofs.Common.{◌≡◌, ℕ, ◌+◌, Bool, true, false, cond, not, ◌&&◌, ◌||◌, inl, inr, List, [], ◌∷◌, ◌++◌, map, length, Option, None, Some, refl, sym, ap, ◌∙◌, subst, arith}
 use Rattle.std.specs.Prelude.{bytes_eq, count_by, sum_by, ◌==◌}
 use Rattle.std.specs.List.{list_all, list_any}
 use Rattle.std.proofs.lemmas.Bool.{and_parts, or_cases}
+use Rattle.std.proofs.lemmas.List.Folds.{list_all-append, list_any-append}
 use Rattle.std.proofs.lemmas.List.Sums.{sum_by-append}
 use Rattle.hx_base.specs.declared.Class.{Class}
 use Rattle.hx_base.specs.declared.Class.TheVariants.{W, L}
@@ -26,23 +27,28 @@ use Rattle.il_code.specs.declared.types.Phi.{Phi}
 use Rattle.il_code.specs.Classes.{first_class, may_give, op_kind, second_class}
 use Rattle.il_code.specs.Items.{Code, function_named, item_name}
 use Rattle.il_code.specs.Rules as rule
-use Rattle.il_code.specs.Rules.{how_many, are_distinct, has_named, has_own_names, has_label, targets_pass, block_labels_known, labels_known, start_is_no_target, phis_are_placed, is_set, inst_has_one_class, block_has_one_class, has_one_class, each_has_one_class, inst_is_right, second_is_right, call_is_right, is_call_right, is_call_of, return_is_right, jump_is_right, block_is_right, block_sets, inst_sets, part_value_is_right, part_is_right, item_is_right, flow_is_right, is_main, is_main_right, inst_is_small, item_is_small, item_size, is_function, is_small, IsValid}
-use Rattle.il_code.specs.Shaped.{is_block, is_inst, is_item, is_jump, is_lawful, is_param, is_phi, is_shaped, ends}
+use Rattle.il_code.specs.Rules.{how_many, are_distinct, has_named, has_own_names, has_label, targets_pass, block_labels_known, labels_known, start_is_no_target, phis_are_placed, is_set, inst_has_one_class, block_has_one_class, has_one_class, each_has_one_class, inst_is_right, second_is_right, call_is_right, is_call_right, is_call_of, return_is_right, jump_is_right, block_is_right, block_sets, part_value_is_right, part_is_right, item_is_right, flow_is_right, is_main, is_main_right, inst_is_small, item_is_small, item_size, is_function, is_small, IsValid}
+use Rattle.il_code.specs.Shaped.{is_block, is_inst, is_item, is_jump, is_lawful, is_param, is_phi, is_shaped, ends, falls}
 use Rattle.il_code.specs.Tokens.{is_identifier}
 use Rattle.il_code.proofs.Validates.{valid_is}
-use Rattle.il_tight.specs.Tight.{is_known, value_passes, option_passes, args_pass, inst_passes, jump_passes, block_passes, reached, first_stays, is_closed, keeps_settings, set_by, reads_settings, may_begin, tight, tight_item, tight_module}
-use Rattle.il_tight.proofs.Kept.{kept, staying, staying_may, tight_is}
-use Rattle.il_tight.proofs.Passing.{both_true, all_two, all_more, all_reached, reached_pass, stays_kept, targets_kept, label_kept, count_kept, whole_ends}
+use Rattle.hx_table.proofs.TableLemmas.{same_name, bytes_eq-same}
+use Rattle.il_tight.specs.Tight.{is_known, is_closed, dropped, keeps_settings, reached, read_by, staying, zero, unset, tight, tight_item, tight_module}
+use Rattle.il_tight.proofs.Behind.{Apart, unset_apart, stops_ends}
+use Rattle.il_tight.proofs.Kept.{kept, tight_is}
+use Rattle.il_tight.proofs.Lacking.{Settles, any_split, settings_at, unset_few, unset_passes, unset_sets}
+use Rattle.il_tight.proofs.Passing.{both_true, all_two, all_more, all_reached, reached_pass, stays_kept, targets_kept, label_kept, count_kept, whole_ends, ends_more}
+use Rattle.il_tight.proofs.ReadTemps.{value_passes, option_passes, args_pass, inst_passes, jump_passes, block_passes, reads_known}
 use Rattle.il_tight.proofs.Runs.{NoPhis, functions_same}
-use Rattle.il_tight.proofs.Settings.{AtClass, or_left, or_right, sets_reached, all_reached_set, any_reached, set_at, every_block}
-use Rattle.il_tight.proofs.Twins.{Plain, plain_kept, SameCode, no_code, one_code}
+use Rattle.il_tight.proofs.Settings.{AtClass, or_left, or_right, sets_reached, all_reached_set, any_reached, set_at}
+use Rattle.il_tight.proofs.Twins.{Plain, plain_kept, plain_append, unset_plain, SameCode, no_code, one_code}
+use Rattle.il_tight.proofs.Staying.{staying_first, staying_closed}
 
 -- ---- what is right
 
 call_same : (result : Option IlParam) (target : List ℕ) (args : List IlArg) (o o' : Option Code) → SameCode o o' →
     is_call_of result target args o' ≡ is_call_of result target args o
 call_same result target args _ _ no_code = refl
-call_same result target args _ _ (one_code f stays w) = refl
+call_same result target args _ _ (one_code f stays last w) = refl
 
 module _ (items items' : List IlItem) (named : (s : List ℕ) → has_named item_name s items' ≡ has_named item_name s items)
     (functions : (name : List ℕ) → SameCode (function_named items name) (function_named items' name))
@@ -148,6 +154,50 @@ module _ (items items' : List IlItem) (named : (s : List ℕ) → has_named item
   jump_right class (Ret v) e h = return_right class v e h
   jump_right class Hlt e h = refl
 
+-- ---- how many blocks have a label
+
+abbrev weight : Bool → ℕ
+weight b = cond b 1 0
+
+how_many_append : (l : List ℕ) (xs ys : List Block) →
+    how_many (λ (b : Block). b.label) l (xs ++ ys) ≡ how_many (λ (b : Block). b.label) l xs + how_many (λ (b : Block). b.label) l ys
+how_many_append l xs ys = sum_by-append (λ (b : Block). cond (bytes_eq b.label l) 1 0) xs ys
+
+one_more : (l : List ℕ) (x : Block) (xs : List Block) →
+    how_many (λ (b : Block). b.label) l (x ∷ xs) ≡ weight (bytes_eq x.label l) + how_many (λ (b : Block). b.label) l xs
+one_more l x xs = how_many_append l (x ∷ []) xs ∙ omega arith
+
+one_alone : (b : Block) → how_many (λ (b : Block). b.label) b.label (b ∷ []) ≡ 1
+one_alone b = let s = bytes_eq-same b.label in one_more b.label b [] ∙ rw s refl
+
+none_named : (l : List ℕ) (x : Block) (xs : List Block) → bytes_eq x.label l ≡ false → how_many (λ (b : Block). b.label) l xs ≡ 0 →
+    how_many (λ (b : Block). b.label) l (x ∷ xs) ≡ 0
+none_named l x xs e on =
+    let w : weight (bytes_eq x.label l) ≡ 0 = ap weight e in omega (arith, one_more l x xs, w, on)
+
+-- a label that stays is none of those that do not, and the other way round
+none_apart : (stays : List ℕ → Bool) (l : List ℕ) → stays l ≡ true → (xs : List Block) → Apart stays xs → how_many (λ (b : Block). b.label) l xs ≡ 0
+none_apart stays l s [] h = refl
+none_apart stays l s (x ∷ xs) h =
+    let k = and_parts (not (stays x.label)) (list_all (λ (b : Block). not (stays b.label)) xs) h in
+    pick (bytes_eq x.label l) refl k.0 (none_apart stays l s xs k.1)
+  where
+    pick : (z : Bool) → bytes_eq x.label l ≡ z → not (stays x.label) ≡ true → how_many (λ (b : Block). b.label) l xs ≡ 0 →
+        how_many (λ (b : Block). b.label) l (x ∷ xs) ≡ 0
+    pick true e n on = absurd (let r : false ≡ true = sym (ap not (ap stays (same_name x.label l e) ∙ s)) ∙ n in cc)
+    pick false e n on = none_named l x xs e on
+
+none_stay : (stays : List ℕ → Bool) (l : List ℕ) → stays l ≡ false → (xs : List Block) →
+    list_all (λ (b : Block). stays b.label) xs ≡ true → how_many (λ (b : Block). b.label) l xs ≡ 0
+none_stay stays l s [] h = refl
+none_stay stays l s (x ∷ xs) h =
+    let k = and_parts (stays x.label) (list_all (λ (b : Block). stays b.label) xs) h in
+    pick (bytes_eq x.label l) refl k.0 (none_stay stays l s xs k.1)
+  where
+    pick : (z : Bool) → bytes_eq x.label l ≡ z → stays x.label ≡ true → how_many (λ (b : Block). b.label) l xs ≡ 0 → how_many (λ (b : Block). b.label) l (x ∷ xs) ≡ 0
+    pick true e n on = absurd (let q = ap stays (same_name x.label l e) in cc)
+    pick false e n on = none_named l x xs e on
+
 -- ---- a function
 
 targets_two : (f g h : List ℕ → Bool) → ((l : List ℕ) → f l ≡ true → g l ≡ true → h l ≡ true) → (j : Jump) →
@@ -182,57 +232,82 @@ module _ (items items' : List IlItem) (named : (s : List ℕ) → has_named item
   bs = first ∷ rest
 
   abbrev stays : List ℕ → Bool
-  stays = staying params bs
+  stays = staying bs
 
   abbrev ks : List Block
   ks = kept stays bs
 
-  may : may_begin params stays bs ≡ true
-  may = staying_may params bs
+  abbrev last : List Block
+  last = unset params stays bs
+
+  -- the tight ones
+  abbrev ts : List Block
+  ts = ks ++ last
 
   starts : stays first.label ≡ true
-  starts = (and_parts (first_stays stays bs) _ may).0
+  starts = staying_first bs
 
   closed : is_closed stays false bs ≡ true
-  closed = (and_parts (is_closed stays false bs) _ (and_parts (first_stays stays bs) _ may).1).0
+  closed = staying_closed bs
+
+  apart : Apart stays last
+  apart = unset_apart params stays bs
+
+  abbrev param_sets : List ℕ → Class → Bool
+  param_sets name c = list_any (λ (p : IlParam). rule.sets name c p.name p.class) params
 
   -- what kept blocks set is what blocks set that stay
-  set_same : (name : List ℕ) (c : Class) → is_set params ks name c ≡ is_set params (reached stays false bs) name c
-  set_same name c = ap (λ (x : Bool). list_any (λ (p : IlParam). rule.sets name c p.name p.class) params || x)
-      (sets_reached stays name c false bs plain)
+  kept_set : (name : List ℕ) (c : Class) → list_any (block_sets name c) ks ≡ list_any (block_sets name c) (reached stays false bs)
+  kept_set name c = sets_reached stays name c false bs plain
 
-  few : (name : List ℕ) (c : Class) → is_set params ks name c ≡ true → is_set params bs name c ≡ true
-  few name c h = elim (or_cases (list_any (λ (p : IlParam). rule.sets name c p.name p.class) params) _ (sym (set_same name c) ∙ h)) [
+  tight_set : (name : List ℕ) (c : Class) → list_any (block_sets name c) ts ≡
+      (list_any (block_sets name c) ks || list_any (block_sets name c) last)
+  tight_set name c = list_any-append (block_sets name c) ks last
+
+  few : (name : List ℕ) (c : Class) → is_set params ts name c ≡ true → is_set params bs name c ≡ true
+  few name c h = elim (or_cases (param_sets name c) (list_any (block_sets name c) ts) h) [
     | inl x ↦ or_left _ (list_any (block_sets name c) bs) x
-    | inr x ↦ or_right (list_any (λ (p : IlParam). rule.sets name c p.name p.class) params) _
-        (any_reached stays (block_sets name c) false bs x)
+    | inr x ↦ or_right (param_sets name c) _
+        (elim (or_cases (list_any (block_sets name c) ks) (list_any (block_sets name c) last) (sym (tight_set name c) ∙ x)) [
+          | inl y ↦ any_reached stays (block_sets name c) false bs (sym (kept_set name c) ∙ y)
+          | inr y ↦ unset_few name c params stays bs y
+        ])
   ]
 
-  -- a test of temporaries that all pass which are read, and that tells which are set
-  record Tested : Type 0 where
-    test : List ℕ → Bool
-    passes : list_all (block_passes test) (reached stays false bs) ≡ true
-    sound : (name : List ℕ) → test name ≡ true → (c : Class) → is_set params bs name c ≡ true → AtClass (λ c'. is_set params ks name c')
+  -- what parameters set, and blocks that stay
+  by_reached : (name : List ℕ) (c : Class) → is_set params (reached stays false bs) name c ≡ true → is_set params ts name c ≡ true
+  by_reached name c h = elim (or_cases (param_sets name c) (list_any (block_sets name c) (reached stays false bs)) h) [
+    | inl x ↦ or_left _ (list_any (block_sets name c) ts) x
+    | inr x ↦ or_right (param_sets name c) _ (tight_set name c ∙ or_left _ _ (kept_set name c ∙ x))
+  ]
 
-  tested : Tested
-  tested = elim (or_cases (keeps_settings stays false bs) (reads_settings params stays bs)
-      (and_parts (is_closed stays false bs) _ (and_parts (first_stays stays bs) _ may).1).1) [
-        | inl h ↦ record {
-          test = λ t. true;
-          passes = every_block (λ t. true) (λ t. refl) (reached stays false bs);
-          sound = λ name e c s. record {
-            class = c;
-            is = set_same name c
-                ∙ ap (λ (x : Bool). list_any (λ (p : IlParam). rule.sets name c p.name p.class) params || x)
-                (all_reached_set stays name c false bs h plain) ∙ s;
-          };
-        }
-        | inr h ↦ record {
-          test = is_known (set_by params stays bs);
-          passes = h;
-          sound = λ name e c s. let a = set_at name params stays bs e in record { class = a.class; is = set_same name a.class ∙ a.is };
-        }
-      ]
+  by_last : (name : List ℕ) (c : Class) → list_any (block_sets name c) last ≡ true → is_set params ts name c ≡ true
+  by_last name c h = or_right (param_sets name c) _ (tight_set name c ∙ or_right (list_any (block_sets name c) ks) _ h)
+
+  abbrev test : List ℕ → Bool
+  test = is_known (read_by stays bs)
+
+  -- a temporary that is read and set is still set
+  sound : (name : List ℕ) → test name ≡ true → (c : Class) → is_set params bs name c ≡ true → AtClass (λ c'. is_set params ts name c')
+  sound name r c h = elim (or_cases (param_sets name c) (list_any (block_sets name c) bs) h) [
+    | inl x ↦ record { class = c; is = or_left _ (list_any (block_sets name c) ts) x }
+    | inr x ↦ elim (any_split stays (block_sets name c) false bs x) [
+      | inl y ↦ record { class = c; is = by_reached name c (or_right (param_sets name c) _ y) }
+      | inr y ↦ lost (keeps_settings stays false bs) refl x y
+    ]
+  ]
+    where
+      lost : (z : Bool) → keeps_settings stays false bs ≡ z → list_any (block_sets name c) bs ≡ true →
+          list_any (block_sets name c) (dropped stays false bs) ≡ true → AtClass (λ c'. is_set params ts name c')
+      lost true e x y = record {
+        class = c;
+        is = by_reached name c (or_right (param_sets name c) _ (all_reached_set stays name c false bs e plain ∙ x));
+      }
+      lost false e x y =
+          elim (unset_sets name c params stays bs plain (stops_ends first rest false is.ended) e r y) [
+            | inl z ↦ let a = set_at name params stays bs z in record { class = a.class; is = by_reached name a.class a.is }
+            | inr z ↦ record { class = z.class; is = by_last name z.class z.is }
+          ]
 
   abbrev once : List ℕ → Bool
   once l = how_many (λ (b : Block). b.label) l bs == 1
@@ -244,7 +319,7 @@ module _ (items items' : List IlItem) (named : (s : List ℕ) → has_named item
   good_inst i = (is_inst i && inst_is_small i) && (inst_has_one_class params bs i && inst_is_right items params bs i)
 
   abbrev read_inst : Inst → Bool
-  read_inst i = good_inst i && inst_passes tested.test i
+  read_inst i = good_inst i && inst_passes test i
 
   abbrev no_start : Jump → Bool
   no_start j = targets_pass (λ l. not (bytes_eq l first.label)) j
@@ -253,7 +328,7 @@ module _ (items items' : List IlItem) (named : (s : List ℕ) → has_named item
   good_jump j = (is_jump j && targets_pass (has_label bs) j) && (no_start j && jump_is_right items params bs class j)
 
   abbrev read_jump : Jump → Bool
-  read_jump j = good_jump j && jump_passes tested.test j
+  read_jump j = good_jump j && jump_passes test j
 
   abbrev good : Block → Bool
   good b = good_label b.label && (list_all good_inst b.insts && good_jump b.jump)
@@ -261,13 +336,13 @@ module _ (items items' : List IlItem) (named : (s : List ℕ) → has_named item
   abbrev read : Block → Bool
   read b = good_label b.label && (list_all read_inst b.insts && read_jump b.jump)
 
-  one_read : (b : Block) → good b ≡ true → block_passes tested.test b ≡ true → read b ≡ true
+  one_read : (b : Block) → good b ≡ true → block_passes test b ≡ true → read b ≡ true
   one_read b g e =
       let x = and_parts (good_label b.label) _ g in
       let y = and_parts (list_all good_inst b.insts) (good_jump b.jump) x.1 in
-      let z = and_parts (list_all (inst_passes tested.test) b.insts) (jump_passes tested.test b.jump) e in
+      let z = and_parts (list_all (inst_passes test) b.insts) (jump_passes test b.jump) e in
       both_true _ _ x.0 (both_true _ _
-      (all_two good_inst (inst_passes tested.test) read_inst (λ i u v. both_true _ _ u v) b.insts y.0 z.0) (both_true _ _ y.1 z.1))
+      (all_two good_inst (inst_passes test) read_inst (λ i u v. both_true _ _ u v) b.insts y.0 z.0) (both_true _ _ y.1 z.1))
 
   one_good : (b : Block) → is_block b ≡ true → once b.label ≡ true → block_labels_known bs b ≡ true → no_start b.jump ≡ true →
       block_has_one_class params bs b ≡ true → block_is_right items params bs class b ≡ true → list_all inst_is_small b.insts ≡ true →
@@ -304,25 +379,58 @@ module _ (items items' : List IlItem) (named : (s : List ℕ) → has_named item
       let m1 = and_parts (list_all inst_is_small x.insts) _ m in
       both_true _ _ (one_good x s1.0 o1.0 k1.0 n1.0 c1.0 r1.0 m1.0) (gather xs s1.1 o1.1 k1.1 n1.1 c1.1 r1.1 m1.1)
 
-  all_read : list_all read ks ≡ true
-  all_read = reached_pass stays good_label read_inst read_jump refl false bs
-      (all_two good (block_passes tested.test) read one_read (reached stays false bs)
-      (all_reached stays good false bs (gather bs is.shaped is.distinct is.known is.start is.one is.right is.small)) tested.passes)
+  all_good : list_all good bs ≡ true
+  all_good = gather bs is.shaped is.distinct is.known is.start is.one is.right is.small
 
-  -- a test of the kept blocks
-  each : (test : Block → Bool) →
-      ((b : Block) → b.phis ≡ [] → read b ≡ true → stays b.label ≡ true → targets_pass stays b.jump ≡ true → test b ≡ true) →
-      list_all test ks ≡ true
-  each test on = go ks (plain_kept stays bs plain) all_read (stays_kept stays bs) (targets_kept stays false bs closed)
+  kept_read : list_all read ks ≡ true
+  kept_read = reached_pass stays good_label read_inst read_jump refl false bs
+      (all_two good (block_passes test) read one_read (reached stays false bs) (all_reached stays good false bs all_good)
+      (reads_known stays bs))
+
+  -- a setting of a temporary to 0 is as good as what set it before, and reads nothing
+  zero_read : (temp : List ℕ) (class : Class) → is_identifier temp ≡ true → has_one_class params bs temp class ≡ true →
+      read_inst (zero temp class) ≡ true
+  zero_read temp W h k =
+      both_true _ true (both_true _ _ (both_true _ true (both_true _ true h refl) refl) (both_true _ true k refl)) refl
+  zero_read temp L h k =
+      both_true _ true (both_true _ _ (both_true _ true (both_true _ true h refl) refl) (both_true _ true k refl)) refl
+
+  settles : Settles good_inst read_inst
+  settles = record {
+    set = λ temp c op a b h. let k = spelled (Set temp c op a b) h in zero_read temp c (and_parts (is_identifier temp) _ k.0).0 k.1;
+    call = λ r target args h. let k = spelled (Call (Some r) target args) h in
+        zero_read r.name r.class (and_parts (is_param r) _ k.0).0 k.1;
+  }
     where
-      go : (xs : List Block) → Plain xs → list_all read xs ≡ true → list_all (λ (b : Block). stays b.label) xs ≡ true →
-          list_all (λ (b : Block). targets_pass stays b.jump) xs ≡ true → list_all test xs ≡ true
-      go [] p g s t = refl
-      go (x ∷ xs) p g s t =
+      spelled : (i : Inst) → good_inst i ≡ true → (is_inst i ≡ true) × (inst_has_one_class params bs i ≡ true)
+      spelled i h =
+          let a = and_parts (is_inst i && inst_is_small i) _ h in
+          ((and_parts (is_inst i) (inst_is_small i) a.0).0, (and_parts (inst_has_one_class params bs i) (inst_is_right items params bs i) a.1).0)
+
+  -- a test that the last block passes
+  each_last : (q : Block → Bool) →
+      ((d : Block) (is : List Inst) → last ≡ settings_at d is ∷ [] → good d ≡ true → stays d.label ≡ false →
+      list_all read_inst is ≡ true → q (settings_at d is) ≡ true) → list_all q last ≡ true
+  each_last q on =
+      unset_passes good_inst read_inst settles good (λ b g. (and_parts (list_all good_inst b.insts) _ (and_parts (good_label b.label) _ g).1).0)
+      params stays bs all_good q on
+
+  -- a test of the tight blocks
+  each : (q : Block → Bool) →
+      ((b : Block) → b.phis ≡ [] → read b ≡ true → targets_pass stays b.jump ≡ true → q b ≡ true) → list_all q ts ≡ true
+  each q on =
+      list_all-append q ks last
+      ∙ both_true _ _ (go ks (plain_kept stays bs plain) kept_read (targets_kept stays false bs closed))
+      (each_last q (λ d is e g n h. on (settings_at d is) refl
+      (both_true _ _ (and_parts (good_label d.label) _ g).0 (both_true _ true h refl)) refl))
+    where
+      go : (xs : List Block) → Plain xs → list_all read xs ≡ true → list_all (λ (b : Block). targets_pass stays b.jump) xs ≡ true →
+          list_all q xs ≡ true
+      go [] p g t = refl
+      go (x ∷ xs) p g t =
           let g1 = and_parts (read x) (list_all read xs) g in
-          let s1 = and_parts (stays x.label) _ s in
           let t1 = and_parts (targets_pass stays x.jump) _ t in
-          both_true (test x) (list_all test xs) (on x p.0 g1.0 s1.0 t1.0) (go xs p.1 g1.1 s1.1 t1.1)
+          both_true (q x) (list_all q xs) (on x p.0 g1.0 t1.0) (go xs p.1 g1.1 t1.1)
 
   -- the parts of what is known of a kept block
   record Parts (b : Block) : Type 0 where
@@ -333,14 +441,14 @@ module _ (items items' : List IlItem) (named : (s : List ℕ) → has_named item
     jump_known : targets_pass (has_label bs) b.jump ≡ true
     jump_start : no_start b.jump ≡ true
     jump_fits : jump_is_right items params bs class b.jump ≡ true
-    jump_reads : jump_passes tested.test b.jump ≡ true
+    jump_reads : jump_passes test b.jump ≡ true
 
   parts : (b : Block) → read b ≡ true → Parts b
   parts b g =
       let a = and_parts (good_label b.label) _ g in
       let l = and_parts (is_identifier b.label) (once b.label) a.0 in
       let c = and_parts (list_all read_inst b.insts) (read_jump b.jump) a.1 in
-      let r = and_parts (good_jump b.jump) (jump_passes tested.test b.jump) c.1 in
+      let r = and_parts (good_jump b.jump) (jump_passes test b.jump) c.1 in
       let j = and_parts (is_jump b.jump && targets_pass (has_label bs) b.jump) _ r.0 in
       let j1 = and_parts (is_jump b.jump) (targets_pass (has_label bs) b.jump) j.0 in
       let j2 = and_parts (no_start b.jump) (jump_is_right items params bs class b.jump) j.1 in
@@ -360,11 +468,11 @@ module _ (items items' : List IlItem) (named : (s : List ℕ) → has_named item
     small : inst_is_small i ≡ true
     one : inst_has_one_class params bs i ≡ true
     fits : inst_is_right items params bs i ≡ true
-    reads : inst_passes tested.test i ≡ true
+    reads : inst_passes test i ≡ true
 
   inst_parts : (i : Inst) → read_inst i ≡ true → InstParts i
   inst_parts i g =
-      let r = and_parts (good_inst i) (inst_passes tested.test i) g in
+      let r = and_parts (good_inst i) (inst_passes test i) g in
       let a = and_parts (is_inst i && inst_is_small i) _ r.0 in
       let x = and_parts (is_inst i) (inst_is_small i) a.0 in
       let y = and_parts (inst_has_one_class params bs i) (inst_is_right items params bs i) a.1 in
@@ -373,38 +481,56 @@ module _ (items items' : List IlItem) (named : (s : List ℕ) → has_named item
   none_left : {A : Type 0} (test : A → Bool) (xs : List A) → xs ≡ [] → list_all test xs ≡ true
   none_left test xs e = ap (list_all test) e
 
-  kept_right : IsRight items' params class ks
-  kept_right = record {
-    shaped = each is_block (λ b p g s t. let q = parts b g in
+  -- each label stands once
+  once_kept : list_all (λ (b : Block). how_many (λ (x : Block). x.label) b.label ts == 1) ks ≡ true
+  once_kept =
+      all_two read (λ (b : Block). stays b.label) _
+      (λ b g s. ap (λ (n : ℕ). n == 1)
+      (how_many_append b.label ks last ∙ omega (arith, count_kept stays b.label s bs, none_apart stays b.label s last apart))
+      ∙ (parts b g).once_all) ks kept_read (stays_kept stays bs)
+
+  once_last : list_all (λ (b : Block). how_many (λ (x : Block). x.label) b.label ts == 1) last ≡ true
+  once_last = each_last _ (λ d is e g n h.
+      let alone : how_many (λ (x : Block). x.label) d.label last ≡ 1 =
+      ap (λ (xs : List Block). how_many (λ (x : Block). x.label) d.label xs) e ∙ one_alone (settings_at d is) in
+      let all : how_many (λ (x : Block). x.label) d.label ts ≡ 1 =
+      how_many_append d.label ks last ∙ omega (arith, alone, none_stay stays d.label n ks (stays_kept stays bs)) in
+      ap (λ (k : ℕ). k == 1) all)
+
+  blocks_right : IsRight items' params class ts
+  blocks_right = record {
+    shaped = each is_block (λ b p g t. let q = parts b g in
         both_true _ _ q.spelled (both_true _ _ (none_left _ b.phis p)
         (both_true _ _ (all_more read_inst is_inst (λ i e. (inst_parts i e).spelled) b.insts q.insts) q.jump_spelled)));
-    ended = rw starts (whole_ends stays first rest is.ended);
-    distinct = each (λ (b : Block). how_many (λ (x : Block). x.label) b.label ks == 1) (λ b p g s t.
-        ap (λ (n : ℕ). n == 1) (count_kept stays b.label s bs) ∙ (parts b g).once_all);
-    known = each (block_labels_known ks) (λ b p g s t. both_true _ _
-        (targets_two stays (has_label bs) (has_label ks) (λ l e h. label_kept stays l e bs ∙ h) b.jump t (parts b g).jump_known)
+    ended = ends_more ks last (rw starts (whole_ends stays first rest is.ended))
+        (each_last (λ (b : Block). not (falls b.jump)) (λ d is e g n h. refl));
+    distinct = list_all-append _ ks last ∙ both_true _ _ once_kept once_last;
+    known = each (block_labels_known ts) (λ b p g t. both_true _ _
+        (targets_two stays (has_label bs) (has_label ts)
+        (λ l e h. list_any-append (λ (x : Block). bytes_eq x.label l) ks last ∙ or_left _ _ (label_kept stays l e bs ∙ h))
+        b.jump t (parts b g).jump_known)
         (none_left _ b.phis p));
     start = start;
-    placed = placed ks (plain_kept stays bs plain);
+    placed = placed ts (plain_append ks last (plain_kept stays bs plain) (unset_plain params stays bs));
     params_one = params_same params is.params_one;
-    one = each (block_has_one_class params ks) (λ b p g s t. both_true _ _ (none_left _ b.phis p)
-        (all_more read_inst (inst_has_one_class params ks)
-        (λ i e. one_class items items' named functions params bs ks few tested.test tested.sound i (inst_parts i e).one) b.insts
+    one = each (block_has_one_class params ts) (λ b p g t. both_true _ _ (none_left _ b.phis p)
+        (all_more read_inst (inst_has_one_class params ts)
+        (λ i e. one_class items items' named functions params bs ts few test sound i (inst_parts i e).one) b.insts
         (parts b g).insts));
-    right = each (block_is_right items' params ks class) (λ b p g s t. both_true _ _ (none_left _ b.phis p)
-        (both_true _ _ (all_more read_inst (inst_is_right items' params ks)
+    right = each (block_is_right items' params ts class) (λ b p g t. both_true _ _ (none_left _ b.phis p)
+        (both_true _ _ (all_more read_inst (inst_is_right items' params ts)
         (λ i e. let q = inst_parts i e in
-        inst_right items items' named functions params bs ks few tested.test tested.sound i q.reads q.fits) b.insts (parts b g).insts)
+        inst_right items items' named functions params bs ts few test sound i q.reads q.fits) b.insts (parts b g).insts)
         (let q = parts b g in
-        jump_right items items' named functions params bs ks few tested.test tested.sound class b.jump q.jump_reads q.jump_fits)));
-    small = each (λ (b : Block). list_all inst_is_small b.insts) (λ b p g s t.
+        jump_right items items' named functions params bs ts few test sound class b.jump q.jump_reads q.jump_fits)));
+    small = each (λ (b : Block). list_all inst_is_small b.insts) (λ b p g t.
         all_more read_inst inst_is_small (λ i e. (inst_parts i e).small) b.insts (parts b g).insts);
   }
     where
-      no_targets : list_all (λ (b : Block). no_start b.jump) ks ≡ true
-      no_targets = each (λ (b : Block). no_start b.jump) (λ b p g s t. (parts b g).jump_start)
+      no_targets : list_all (λ (b : Block). no_start b.jump) ts ≡ true
+      no_targets = each (λ (b : Block). no_start b.jump) (λ b p g t. (parts b g).jump_start)
 
-      start : start_is_no_target ks ≡ true
+      start : start_is_no_target ts ≡ true
       start = let h = no_targets in rw starts (rw starts at h)
 
       placed : (xs : List Block) → Plain xs → phis_are_placed xs ≡ true
@@ -418,10 +544,10 @@ module _ (items items' : List IlItem) (named : (s : List ℕ) → has_named item
           others (y ∷ ys) q = both_true _ _ (none_left _ y.phis q.0) (others ys q.1)
 
       params_same : (ps : List IlParam) → list_all (λ (p : IlParam). has_one_class params bs p.name p.class) ps ≡ true →
-          list_all (λ (p : IlParam). has_one_class params ks p.name p.class) ps ≡ true
+          list_all (λ (p : IlParam). has_one_class params ts p.name p.class) ps ≡ true
       params_same ps h =
           all_more _ _
-          (λ (p : IlParam) e. class_right items items' named functions params bs ks few tested.test tested.sound p.name p.class e) ps h
+          (λ (p : IlParam) e. class_right items items' named functions params bs ts few test sound p.name p.class e) ps h
 
 -- ---- a module
 
@@ -468,7 +594,7 @@ module _ (items items' : List IlItem) (named : (s : List ℕ) → has_named item
       let r2 = and_parts (each_has_one_class params bs) (list_all (block_is_right items params bs class) bs) r1.1 in
       let r3 = and_parts (list_all (λ (p : IlParam). has_one_class params bs p.name p.class) params)
       (list_all (block_has_one_class params bs) bs) r2.0 in
-      let k = kept_right items items' named functions params class first rest p (record {
+      let k = blocks_right items items' named functions params class first rest p (record {
         shaped = a3.0;
         ended = a3.1;
         distinct = o2.1;

@@ -1,36 +1,48 @@
 -- A function whose blocks have no phis, and the same one with tight blocks.
-use Rattle.std.proofs.Common.{◌≡◌, ℕ, Bool, true, false, List, [], ◌∷◌, sym, ap}
+use Rattle.std.proofs.Common.{◌≡◌, ℕ, Bool, List, [], ◌∷◌, ◌++◌, true, false, refl, sym, ap}
 use Rattle.std.proofs.lemmas.Bool.{and_parts}
 use Rattle.il_code.specs.declared.types.Block.{Block}
 use Rattle.il_code.specs.declared.types.IlParam.{IlParam}
 use Rattle.il_code.specs.Machine.{call_cost}
 use Rattle.il_code.specs.Rules.{targets_pass}
-use Rattle.il_tight.specs.Tight.{first_stays, is_closed}
-use Rattle.il_tight.proofs.Kept.{kept, staying, staying_may, tight_is}
+use Rattle.il_tight.specs.Tight.{staying, unset}
+use Rattle.il_tight.proofs.Behind.{unset_apart, unset_sealed, unset_zeros}
+use Rattle.il_tight.proofs.Kept.{kept, tight_is}
 use Rattle.il_tight.proofs.Light.{price}
-use Rattle.il_tight.proofs.Twins.{Plain, Landing, nowhere_lands, block_lands, closed_here, IsWhole}
+use Rattle.il_tight.proofs.Twins.{Plain, Landing, IsSound, nowhere_lands, block_lands, closed_here, IsWhole}
+use Rattle.il_tight.proofs.Staying.{first_stays, staying_first, staying_closed}
 
-module _ (stays : List ℕ → Bool) where
-  opens_at : (bs : List Block) → first_stays stays bs ≡ true → is_closed stays false bs ≡ true → Plain bs → (l l' : List ℕ) →
-      Landing stays l l' bs (kept stays bs)
-  opens_at [] e h p l l' = nowhere_lands stays l l'
-  opens_at (b ∷ bs) e h p l l' =
-      let k = and_parts (targets_pass stays b.jump) _ (closed_here stays l l' false b bs e h) in
-      rw e (block_lands stays l l' b bs p.0 p.1 k.0 k.1)
-
-pub price_is : (params : List IlParam) (bs : List Block) → price params bs ≡ call_cost params (kept (staying params bs) bs)
+pub price_is : (params : List IlParam) (bs : List Block) →
+    price params bs ≡ call_cost params (kept (staying bs) bs ++ unset params (staying bs) bs)
 unfolding price
 price_is params bs = ap (call_cost params) (tight_is params bs)
 
-pub is_whole : (params : List IlParam) (bs : List Block) → Plain bs → IsWhole (staying params bs) params bs
-is_whole params bs p =
-    let stays = staying params bs in
-    let k = and_parts (first_stays stays bs) _ (staying_may params bs) in
-    let c = and_parts (is_closed stays false bs) _ k.1 in
-    record {
-      opens = opens_at stays bs k.0 c.0 p;
-      first = k.0;
-      closed = c.0;
-      plain = p;
-      cost = sym (price_is params bs);
-    }
+-- the blocks of a function are sound, and control begins at the first of them
+opens_at : (stays : List ℕ → Bool) (last bs : List Block) → (bs ≡ [] → last ≡ []) → first_stays stays bs ≡ true → IsSound stays last bs →
+    (l l' : List ℕ) → Landing stays l l' bs (kept stays bs ++ last)
+opens_at stays last [] n e z l l' = let none = n refl in rw none (nowhere_lands stays l l')
+opens_at stays last (b ∷ bs) n e z l l' =
+    let k = and_parts (targets_pass stays b.jump) _ (closed_here stays l l' false b bs e z.closed) in
+    rw e (block_lands stays l l' last b bs z.plain.0 (record { passes = k.0; closed = k.1; plain = z.plain.1; sealed = z.sealed }))
+
+nothing_unset : (params : List IlParam) (bs : List Block) → bs ≡ [] → unset params (staying bs) bs ≡ []
+nothing_unset params [] e = refl
+nothing_unset params (b ∷ bs) e = cc
+
+pub is_sound : (params : List IlParam) (bs : List Block) → Plain bs → IsSound (staying bs) (unset params (staying bs) bs) bs
+is_sound params bs p = record {
+  closed = staying_closed bs;
+  plain = p;
+  apart = unset_apart params (staying bs) bs;
+  sealed = unset_sealed params (staying bs) bs;
+}
+
+pub is_whole : (params : List IlParam) (bs : List Block) → Plain bs → IsWhole (staying bs) (unset params (staying bs) bs) params bs
+is_whole params bs p = record {
+  opens =
+      opens_at (staying bs) (unset params (staying bs) bs) bs (nothing_unset params bs) (staying_first bs) (is_sound params bs p);
+  first = staying_first bs;
+  sound = is_sound params bs p;
+  zeros = unset_zeros params (staying bs) bs;
+  cost = sym (price_is params bs);
+}

@@ -1,12 +1,13 @@
 //! The blocks of a function.
 
-ghost use Rattle.std.specs.Prelude.{◌≡◌, ◌++◌, ◌∷◌, [], true, false, reverse, OnOk, IfOk, if◌then◌else◌};
+ghost use Rattle.std.specs.Prelude.{◌≡◌, ◌++◌, ◌∷◌, [], true, false, reverse, option_to_list, OnOk, IfOk, if◌then◌else◌};
 ghost use Rattle.il_code.specs.Shaped.{falls};
-ghost use Rattle.il_tight.specs.Tight.{flags_of, joined, may_be_tight, with_joined, with_block, with_blocks, tight};
+ghost use Rattle.il_tight.specs.Tight.{begins, joined, with_joined, with_block, with_blocks, staying, unset, tight};
 ghost use Rattle.il_tight.specs.Tightness.{IsTight};
 
 use crate::labels::falls;
-use crate::wanted::flags_of;
+use crate::temps::unset;
+use crate::wanted::{begins, wanted};
 use il_code::{Block, Blocks, IlParam, Insts};
 use std::alloc::{AllocError, Global};
 
@@ -111,20 +112,41 @@ fn with_blocks(alloc: Global, blocks: Blocks, flags: &[bool]) -> Result<Blocks, 
     Ok(out)
 }
 
+/// What becomes of the blocks of a function: which begin, and what stands behind all.
+struct Plan {
+    begins: Vec<bool>,
+    last: Option<Block>,
+}
+
+fn planned(alloc: Global, params: &[IlParam], blocks: &[Block]) -> Result<Plan, AllocError>
+    ensures begins { IfOk result (λ p. p.begins.items ≡ begins (staying blocks.now) blocks.now) }
+    ensures last { IfOk result (λ p. option_to_list p.last ≡ unset params.now (staying blocks.now) blocks.now) }
+{
+    let labels = wanted(alloc, blocks)?;
+    let begins = begins(alloc, &labels, blocks)?;
+    let last = unset(alloc, params, &labels, blocks)?;
+    Ok(Plan { begins, last })
+}
+
 fn tight_blocks(alloc: Global, params: &[IlParam], blocks: Blocks) -> Result<Blocks, AllocError>
     ensures { IfOk result (λ bs. bs ≡ tight params.now blocks) }
 {
-    let flags = flags_of(alloc, params, blocks.as_slice())?;
-    with_blocks(alloc, blocks, flags.as_slice())
+    let Plan { begins, last } = planned(alloc, params, blocks.as_slice())?;
+    let mut out = with_blocks(alloc, blocks, begins.as_slice())?;
+    match last {
+        None => {}
+        Some(b) => out.push(b)?,
+    }
+    Ok(out)
 }
 
 /// The blocks of a function with these parameters, each of which begins where it must: where a jump that control comes to names its
-/// label. Any other is joined to the one that falls into it, or dropped where none does. Where what would stay reads a temporary that only
-/// what would be dropped sets, each block behind a jump that sets a temporary stays too. The blocks have no phis. An error is want of
-/// memory.
+/// label. Any other is joined to the one that falls into it, or dropped where none does. Where what stays reads temporaries that only
+/// what is dropped sets, one block that sets these stands behind all, to which control does not come. The blocks have no phis. An error is
+/// want of memory.
 pub fn tighten(alloc: Global, params: &[IlParam], blocks: Blocks) -> Result<Blocks, AllocError>
     ensures value { IfOk result (λ bs. bs ≡ tight params.now blocks) }
-    ensures tightness { IfOk result (λ bs. may_be_tight params.now blocks ≡ true → IsTight bs) }
+    ensures tightness { IfOk result IsTight }
 {
     let bs = tight_blocks(alloc, params, blocks)?;
     Ok(bs)

@@ -1,8 +1,8 @@
 //! Blocks of the intermediate language of which each begins where it must.
 //!
-//! [`tighten`] drops each label that no jump names, where control falls into its block, and code that nothing reaches, wherever what is
-//! reached reads no temporary that such code alone sets. A module whose functions are tightened does what it did before, step by step, but
-//! that a call of a function may cost the stack less.
+//! [`tighten`] drops each label that no jump names, where control falls into its block, and code that nothing reaches. Temporaries that
+//! are read, and that only such code sets, are set in one block behind all others. A module whose functions are tightened does what it did
+//! before, step by step, but that a call of a function may cost the stack less.
 #![tactic(auto)]
 
 mod blocks;

@@ -1,31 +1,22 @@
 //! Which blocks of a function begin.
 
-ghost use Rattle.std.specs.Prelude.{◌≡◌, ◌++◌, [], true, false, is_some, OnOk, IfOk};
+ghost use Rattle.std.specs.Prelude.{◌≡◌, ◌++◌, [], true, false, OnOk, IfOk};
 ghost use Rattle.il_code.specs.Shaped.{falls};
-ghost use Rattle.il_tight.specs.Tight.{block_assigns, begins, is_known, with_name, with_targets, wanted_from, wanted, is_closed, keeps_settings, reads_settings, may_begin, flags_at, flags_of};
+ghost use Rattle.il_tight.specs.Tight.{begins, is_known, with_name, with_targets, wanted_from, closed_from, wanted, is_closed};
 
 use crate::labels::{add_targets, falls, is_closed, stays};
-use crate::temps::{keeps_settings, reads_settings, sets};
 use hx_table::Table;
-use il_code::{Block, IlParam};
+use il_code::Block;
 use std::alloc::{AllocError, Global};
 
-/// Adds the labels that stay of these blocks, the first of which stays or stands behind a jump. Where `settings` says so, what sets a
-/// temporary stays too.
-fn add_wanted<'a>(
-    known: &mut Table<'a, ()>,
-    settings: bool,
-    blocks: &'a [Block],
-) -> Result<(), AllocError>
-    ensures { OnOk result (known.new ≡ wanted_from settings known.old false blocks.now) }
+/// Adds the labels that these blocks name where control comes to them, of which the first stays or stands behind a jump.
+fn add_wanted<'a>(known: &mut Table<'a, ()>, blocks: &'a [Block]) -> Result<(), AllocError>
+    ensures { OnOk result (known.new ≡ wanted_from known.old false blocks.now) }
 {
     let mut into = false;
     let mut left = blocks;
     'each: while let [b, more @ ..] = left {
-        if into || known.find(b.label.bytes()).is_some() || (settings && sets(b)) {
-            if !into {
-                known.add(b.label.bytes(), ())?;
-            }
+        if into || stays(known, &b.label) {
             add_targets(known, &b.jump)?;
             into = falls(&b.jump);
         }
@@ -34,50 +25,43 @@ fn add_wanted<'a>(
     Ok(())
 }
 
+/// Adds them again and again, as long as a jump of what stays names a label that does not.
+fn close<'a>(known: &mut Table<'a, ()>, blocks: &'a [Block]) -> Result<(), AllocError>
+    ensures { OnOk result (known.new ≡ closed_from blocks.now known.old blocks.now) }
+{
+    let mut turns = blocks;
+    'each: while let [_, more @ ..] = turns {
+        if is_closed(known, blocks) {
+            return Ok(());
+        }
+        add_wanted(known, blocks)?;
+        turns = more;
+    }
+    Ok(())
+}
+
 /// The labels that stay.
-fn wanted<'a>(
-    alloc: Global,
-    settings: bool,
-    blocks: &'a [Block],
-) -> Result<Table<'a, ()>, AllocError>
-    ensures { IfOk result (λ t. t ≡ wanted settings blocks.now) }
+pub fn wanted<'a>(alloc: Global, blocks: &'a [Block]) -> Result<Table<'a, ()>, AllocError>
+    ensures { IfOk result (λ t. t ≡ wanted blocks.now) }
 {
     let mut known = Table::new(alloc);
     match blocks {
         [] => {}
         [first, ..] => {
             known.add(first.label.bytes(), ())?;
-            add_wanted(&mut known, settings, blocks)?;
+            add_wanted(&mut known, blocks)?;
+            close(&mut known, blocks)?;
         }
     }
     Ok(known)
 }
 
-/// Whether blocks may begin at these labels alone.
-fn may_begin(
+/// Which blocks begin.
+pub fn begins(
     alloc: Global,
-    params: &[IlParam],
     known: &Table<'_, ()>,
     blocks: &[Block],
-) -> Result<bool, AllocError>
-    ensures { IfOk result (λ may. may ≡ may_begin params.now (is_known known.now) blocks.now) }
-{
-    match blocks {
-        [] => Ok(true),
-        [first, ..] => {
-            if !stays(known, &first.label) || !is_closed(known, blocks) {
-                return Ok(false);
-            }
-            if keeps_settings(known, blocks) {
-                return Ok(true);
-            }
-            reads_settings(alloc, params, known, blocks)
-        }
-    }
-}
-
-/// Which blocks begin.
-fn begins(alloc: Global, known: &Table<'_, ()>, blocks: &[Block]) -> Result<Vec<bool>, AllocError>
+) -> Result<Vec<bool>, AllocError>
     ensures { IfOk result (λ v. v.items ≡ begins (is_known known.now) blocks.now) }
 {
     let mut flags = Vec::new(alloc);
@@ -87,23 +71,4 @@ fn begins(alloc: Global, known: &Table<'_, ()>, blocks: &[Block]) -> Result<Vec<
         left = more;
     }
     Ok(flags)
-}
-
-/// Which blocks of a function begin. None is said where all do.
-pub fn flags_of(
-    alloc: Global,
-    params: &[IlParam],
-    blocks: &[Block],
-) -> Result<Vec<bool>, AllocError>
-    ensures { IfOk result (λ v. v.items ≡ flags_of params.now blocks.now) }
-{
-    let reached = wanted(alloc, false, blocks)?;
-    if may_begin(alloc, params, &reached, blocks)? {
-        return begins(alloc, &reached, blocks);
-    }
-    let settings = wanted(alloc, true, blocks)?;
-    if may_begin(alloc, params, &settings, blocks)? {
-        return begins(alloc, &settings, blocks);
-    }
-    Ok(Vec::new(alloc))
 }
