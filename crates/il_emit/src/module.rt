@@ -9,6 +9,7 @@ ghost use Rattle.il_emit.specs.Numbered.{HasFewNames};
 ghost use Rattle.il_emit.specs.Reaches.{Reaches};
 ghost use Rattle.il_emit.specs.Shape.{HasShape};
 ghost use Rattle.il_tight.specs.Tight.{tight, tight_item, tight_module};
+ghost use Rattle.il_tight.specs.Tightness.{AreTight};
 ghost use Rattle.il_emit.specs.Emitted.{data_item, params_of, blocks_of, function_item, module_of};
 
 use crate::code::code;
@@ -31,7 +32,8 @@ use std::alloc::{AllocError, Global};
 /// The module is valid, and it does what the program does: at every number of turns there is a budget, of at most four units for each flat
 /// step and one more, with which a run of it comes to the same end and the same world, or to the same world where turns ran out. Where
 /// calls that are active at once cost more than the stack holds, its end may be a full stack instead. No function jumps back more often
-/// than its code has Loops, calls a function more often than its code has Calls of it, or costs the stack more than flat code says.
+/// than its code has Loops, calls a function more often than its code has Calls of it, or costs the stack more than flat code says. Each
+/// function is tight.
 ///
 /// An error is want of memory.
 pub fn emit(alloc: Global, p: &FlatProgram) -> Result<Module, AllocError>
@@ -39,6 +41,7 @@ pub fn emit(alloc: Global, p: &FlatProgram) -> Result<Module, AllocError>
     ensures valid { IfOk result (λ m. IsValid m) }
     ensures reaches { IfOk result (λ m. Reaches p.now m) }
     ensures shape { IfOk result (λ m. HasShape p.now m) }
+    ensures tight { IfOk result AreTight }
 {
     let m = module_of(alloc, p)?;
     Ok(m)

@@ -1,4 +1,4 @@
--- The module is valid, does what the program does, and has its shape.
+-- The module is valid, does what the program does, and has its shape, and its functions are tight.
 use Rattle.std.proofs.Common.{subst, sym}
 use Rattle.il_code.specs.declared.types.Module.{Module}
 use Rattle.il_code.specs.Rules.{IsValid}
@@ -9,6 +9,9 @@ use Rattle.il_emit.proofs.Lawful.{valid}
 use Rattle.il_emit.proofs.Phis.{module_plain}
 use Rattle.il_emit.proofs.Shapes.{shape}
 use Rattle.il_emit.proofs.Tightened.{tight_reaches, tight_shape}
+use Rattle.il_emit.specs.Emitted.{module_of}
+use Rattle.il_tight.specs.Tightness.{AreTight}
+use Rattle.il_tight.proofs.Tightness.{all_tight}
 use Rattle.il_tight.proofs.Valid.{valid_same}
 use Rattle.il_emit.proofs.module.emit.Goals as goal
 
@@ -26,3 +29,7 @@ pub returns-clause-shape : goal.returns-clause-shape
 returns-clause-shape c =
     subst (λ (m : Module). HasShape c.args.p.now m) (sym c.in_ok-m.ensures.value)
     (tight_shape c.args.p.now _ (module_plain c.args.p.now) (shape c.args.p.now c.requires))
+
+pub returns-clause-tight : goal.returns-clause-tight
+returns-clause-tight c =
+    subst (λ (m : Module). AreTight m) (sym c.in_ok-m.ensures.value) (all_tight (module_of c.args.p.now).items)
