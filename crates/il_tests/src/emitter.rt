@@ -310,7 +310,7 @@ export function w $main() {
 }
 ";
 
-/// Code behind a return, which alone sets what is returned.
+/// Code behind a return, which alone sets what is returned: control does not come to what is left of it.
 const READ: [Step; 3] = [
     Step::Plain(Plain::Ret(Value::Temp(0))),
     Step::Plain(Plain::Set(0, Class::W, Op::Copy, Value::Number(7), Value::Number(0))),
@@ -322,8 +322,8 @@ export function w $main() {
 @b0
 \tret %t0
 @b2
-\t%t0 =w copy 7
-\tret 0
+\t%t0 =w copy 0
+\thlt
 }
 ";
 
