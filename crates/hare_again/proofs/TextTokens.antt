@@ -5,7 +5,7 @@ use Rattle.hare_tree.specs.declared.place.Place.{Place}
 use Rattle.hare_tree.specs.declared.token.Token.{Token}
 use Rattle.hare_tree.specs.Tokens.{IsComment, Gap, Stands, Reads, place_at, is_path_mark}
 use Rattle.hare_tree.specs.Grammar.{unplaced}
-use Rattle.hare_pieces.proofs.Fronts.{blank_gap}
+use Rattle.hare_pieces.proofs.OneList.Fronts.{blank_gap}
 use Rattle.hare_again.specs.Reading.{Part, text_of, AreParts}
 
 -- ---- tokens elsewhere

@@ -9,7 +9,7 @@ use Rattle.hare_tree.specs.Forms.{form_of, expr}
 use Rattle.hare_tree.specs.Levels.{level, admits}
 use Rattle.hare_tree.specs.Node.{Node, branch, head, kids_of}
 use Rattle.hare_tree.specs.Shape.{is_shaped, are_kids, kid_pieces}
-use Rattle.hare_tree.proofs.KidSorts.{shaped_kids}
+use Rattle.hare_tree.proofs.TreeKids.KidSorts.{shaped_kids}
 use Rattle.hare_tree.proofs.TreeKids.ShapedKids.{shaped_admits}
 use Rattle.hare_types.specs.Store.{Store}
 use Rattle.hare_typed.specs.Typed.{TypedNode, marked, typed_nodes}

@@ -9,7 +9,7 @@ use Rattle.hare_tree.specs.Forms.{form_of}
 use Rattle.hare_tree.specs.Levels.{level, admits, is_type}
 use Rattle.hare_tree.specs.Node.{Head, Node, Nodes, branch, none, more, head, kids_of}
 use Rattle.hare_tree.specs.Shape.{is_shaped, are_kids, kid_pieces, is_leaf, is_none_or_comma, is_own}
-use Rattle.hare_tree.proofs.KidSorts.{shaped_kids}
+use Rattle.hare_tree.proofs.TreeKids.KidSorts.{shaped_kids}
 use Rattle.hare_tree.proofs.TreeKids.ShapedKids.{shaped_admits}
 use Rattle.hare_types.specs.declared.coercion.Coercion.{Coercion}
 use Rattle.hare_types.specs.declared.coercion.Ty.{Ty}

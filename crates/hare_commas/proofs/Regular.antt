@@ -13,7 +13,7 @@ use Rattle.hare_tree.specs.Levels.{level, admits}
 use Rattle.hare_tree.specs.Shape.{is_shaped, are_kids, is_none, is_leaf, is_absent, is_none_or_comma, kid_pieces}
 use Rattle.hare_tree.specs.Spell.{stands_alone}
 use Rattle.hare_tree.specs.Judged.{nodes_from}
-use Rattle.hare_tree.proofs.KidSorts.{shaped_kids}
+use Rattle.hare_tree.proofs.TreeKids.KidSorts.{shaped_kids}
 use Rattle.hare_tree.proofs.TreeKids.ShapedKids.{AllShaped, shaped_admits, kids_of_shaped}
 use Rattle.hare_ways.specs.Breaks.{is_list, is_case}
 use Rattle.hare_commas.proofs.ListForms.{list_kids, IsOpen, EndsOpen, TakeSigns, IsRegular, AreRegular}

@@ -2,3 +2,5 @@
 pub mod Lists
 pub mod Firsts
 pub mod Standing
+pub mod Longest
+pub mod ShortMarks

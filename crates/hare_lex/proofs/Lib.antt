@@ -1,6 +1,3 @@
-pub mod Steps
-pub mod Longest
-pub mod ShortMarks
 pub mod Fronts
 pub mod Literals
 pub mod Sound

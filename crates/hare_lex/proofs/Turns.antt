@@ -3,3 +3,4 @@ pub mod Gaps
 pub mod GapParts
 pub mod Progress
 pub mod Turn
+pub mod Steps

@@ -8,7 +8,7 @@ use hare_tree::Word;
 use std::alloc::{AllocError, Global};
 
 // How many bytes are left from the first backslash on that begins no escape, where there is one.
-#[tactic(auto, using(crate::proofs::Steps::bad_escape_at))]
+#[tactic(auto, using(crate::proofs::Turns::Steps::bad_escape_at))]
 pub fn bad_escape(s: &[u8]) -> Option<usize>
     ensures value { result ≡ bad_escape 0 s.now }
     ensures within { IfSome result (λ n. n ≤ length s.now) }
@@ -28,7 +28,7 @@ pub fn bad_escape(s: &[u8]) -> Option<usize>
 }
 
 // The bytes with each escape replaced by its character.
-#[tactic(auto, using(crate::proofs::Steps::unescaped_more))]
+#[tactic(auto, using(crate::proofs::Turns::Steps::unescaped_more))]
 pub fn unescaped(alloc: Global, s: &[u8]) -> Result<Word, AllocError>
     ensures { IfOk result (λ w. w ≡ unescaped 0 s.now) }
 {

@@ -8,7 +8,7 @@ use crate::bytes::front;
 use hare_tree::{Suffix, is_listed};
 
 // The length of the longest mark at the front, 0 where none stands there.
-#[tactic(auto, using(crate::proofs::Longest::longest_like, crate::proofs::ShortMarks::alone), unfolding(crate::specs::Lexing::longest))]
+#[tactic(auto, using(crate::proofs::Fronts::Longest::longest_like, crate::proofs::Fronts::ShortMarks::alone), unfolding(crate::specs::Lexing::longest))]
 pub fn mark_len(s: &[u8]) -> usize
     ensures value { result ≡ longest marks s.now }
     ensures within { result ≤ length s.now }
@@ -55,7 +55,7 @@ fn begins_mark(first: u8) -> bool
 }
 
 // Whether a byte is the second of a mark.
-#[tactic(auto, using(crate::proofs::ShortMarks::no_second))]
+#[tactic(auto, using(crate::proofs::Fronts::ShortMarks::no_second))]
 fn goes_on(second: u8) -> bool
     ensures { result ≡ false → (first : ℕ) (rest : List ℕ) → is_listed marks (first ∷ second ∷ rest) ≡ false }
 {
@@ -99,7 +99,7 @@ fn marks_like(first: u8) -> &'static [&'static [u8]]
 }
 
 // The length of the longest suffix at the front, 0 where none stands there.
-#[tactic(auto, using(crate::proofs::Longest::longest_like), unfolding(crate::specs::Lexing::longest))]
+#[tactic(auto, using(crate::proofs::Fronts::Longest::longest_like), unfolding(crate::specs::Lexing::longest))]
 pub fn suffix_len(s: &[u8]) -> usize
     ensures value { result ≡ longest suffixes s.now }
     ensures within { result ≤ length s.now }

@@ -3,7 +3,7 @@ use Rattle.std.proofs.Common.{◌≡◌, Ok, sym, ap, ◌∙◌, subst}
 use Rattle.hare_tree.specs.Grammar.{IsFileTree}
 use Rattle.hare_lex.proofs.Whole.Unique.{only_tokens}
 use Rattle.hare_automaton.proofs.Spelled.Files.{tokens_have_one_file}
-use Rattle.hare_pieces.proofs.Once.{one_list_of_pieces}
+use Rattle.hare_pieces.proofs.OneList.Once.{one_list_of_pieces}
 use Rattle.hare_lines.specs.Layout.{SourcesHaveOneLayout, layout_of}
 
 pub sources_have_one_layout : SourcesHaveOneLayout

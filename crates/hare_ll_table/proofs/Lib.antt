@@ -1,3 +1,2 @@
-pub mod Rests
-pub mod Tops
 pub mod SeenTokens
+pub mod Stack

@@ -3,3 +3,4 @@ pub mod Onward
 pub mod AtEnd
 pub mod Placed
 pub mod Answered
+pub mod Once

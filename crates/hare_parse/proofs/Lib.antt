@@ -1,5 +1,3 @@
-pub mod Heights
-pub mod Kids
-pub mod Once
 pub mod ClosedRun
 pub mod MadeTrees
+pub mod Kids

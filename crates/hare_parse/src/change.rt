@@ -29,7 +29,7 @@ pub fn all_changed(
 }
 
 /// A change at a token of the file.
-#[tactic(auto, using(crate::proofs::Heights::bound_leaf))]
+#[tactic(auto, using(crate::proofs::Kids::Heights::bound_leaf))]
 fn changed(
     spare: &mut Spare<Tree>,
     file: u32,
@@ -69,7 +69,7 @@ pub fn start_of(file: u32) -> Place
 // ---- the innermost tree under way
 
 /// The tree, which has no kids, is the next kid of the innermost tree under way.
-#[tactic(auto, using(crate::proofs::Heights::bound_one))]
+#[tactic(auto, using(crate::proofs::Kids::Heights::bound_one))]
 fn add_leaf(groups: &mut Pile<Group>, tree: Tree) -> Result<(), AllocError>
     requires { height tree ≤ 1 }
     ensures { OnOk result (groups.new ≡ engine.add tree groups.old) }

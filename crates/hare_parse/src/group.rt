@@ -225,7 +225,7 @@ impl Group {
 }
 
 /// How high a tree of the kind is at the most whose kids are no higher than this, up to 256.
-#[tactic(auto, using(crate::proofs::Heights::bound_counted, crate::proofs::Heights::bound_full, crate::proofs::Heights::bound_uncounted))]
+#[tactic(auto, using(crate::proofs::Kids::Heights::bound_counted, crate::proofs::Kids::Heights::bound_full, crate::proofs::Kids::Heights::bound_uncounted))]
 fn above(kind: Kind, highest: u16) -> u16
     ensures { (h : ℕ) → IsBound highest h → IsBound result (counted kind + h) }
 {
@@ -239,7 +239,7 @@ fn above(kind: Kind, highest: u16) -> u16
 }
 
 /// Takes out the last tree, if there is one.
-#[tactic(auto, using(crate::proofs::Kids::last_kid_append, crate::proofs::Kids::but_last_append))]
+#[tactic(auto, using(crate::proofs::Kids::LastKid::last_kid_append, crate::proofs::Kids::LastKid::but_last_append))]
 fn pop_last(trees: &mut Vec<Tree>) -> Option<Tree>
     ensures found { MatchOption result (engine.last_kid trees.old.items ≡ []) (λ t. engine.last_kid trees.old.items ≡ t ∷ []) }
     ensures left { trees.new.items ≡ engine.but_last trees.old.items }

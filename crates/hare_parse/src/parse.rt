@@ -32,7 +32,7 @@ pub struct Parsed {
 /// expressions may be open round another, and comes before E8.
 ///
 /// The time is linear in the tokens of the run.
-#[tactic(auto, using(crate::proofs::Once::only_tree, crate::proofs::Once::only_fault))]
+#[tactic(auto, using(crate::proofs::ClosedRun::Once::only_tree, crate::proofs::ClosedRun::Once::only_fault))]
 pub fn parse_type(alloc: Global, t: &Tokens, at: usize) -> Result<Parsed, Stop<Fault>>
     requires { at < length t.now }
     ensures ok { IfOk result (λ p. spec.IsParsed so.Type t.now at p) }
@@ -46,7 +46,7 @@ pub fn parse_type(alloc: Global, t: &Tokens, at: usize) -> Result<Parsed, Stop<F
 
 /// The expression that the tokens of a file are from a place of their list on (Hare specification, "Expressions"), in the same way, with
 /// the same faults. The place is that of a token of the list.
-#[tactic(auto, using(crate::proofs::Once::only_tree, crate::proofs::Once::only_fault))]
+#[tactic(auto, using(crate::proofs::ClosedRun::Once::only_tree, crate::proofs::ClosedRun::Once::only_fault))]
 pub fn parse_expr(alloc: Global, t: &Tokens, at: usize) -> Result<Parsed, Stop<Fault>>
     requires { at < length t.now }
     ensures ok { IfOk result (λ p. spec.IsParsed forms.expr t.now at p) }

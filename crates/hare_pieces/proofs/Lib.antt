@@ -1,4 +1,2 @@
-pub mod Fronts
-pub mod Passed
-pub mod Walked
-pub mod Once
+pub mod OneList
+pub mod Walk

@@ -32,7 +32,7 @@ impl Agenda {
     }
 
     /// Puts what is waited for on top, the first of it topmost.
-    #[tactic(auto, using(crate::proofs::Opened::nodes_in_append))]
+    #[tactic(auto, using(crate::proofs::Steps::Opened::nodes_in_append))]
     pub fn push_all(&mut self, waits: &[Wait]) -> Result<(), AllocError>
         requires { IsPaired self.old }
         ensures waits { OnOk result (waited self.new.waits ≡ waited waits.now ++ waited self.old.waits) }
@@ -43,7 +43,7 @@ impl Agenda {
     }
 
     /// Takes the symbol that is waited for next; none where nothing is.
-    #[tactic(auto, using(crate::proofs::Opened::nodes_in_next))]
+    #[tactic(auto, using(crate::proofs::Steps::Opened::nodes_in_next))]
     pub fn next(&mut self) -> Result<Option<Symbol>, AllocError>
         requires { IsPaired self.old }
         ensures waits { IfOk result (λ next. MatchOption next ((waited self.old.waits ≡ []) × (waited self.new.waits ≡ []))

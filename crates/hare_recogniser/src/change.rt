@@ -59,7 +59,7 @@ fn put(tree: Mark, frames: &mut Pile<Frame>) -> Result<(), AllocError>
 }
 
 /// The innermost tree under way is whole, and of this kind.
-#[tactic(auto, using(crate::proofs::Capping::put_same))]
+#[tactic(auto, using(crate::proofs::Marks::Capping::put_same))]
 pub fn close(
     spare: &mut Spare<Mark>,
     kind: Kind,

@@ -9,7 +9,7 @@ use crate::nodes::Nodes;
 use hare_ll_table::Pile;
 
 /// The least token at which a limit is passed, as far as the innermost tree under way shows it.
-#[tactic(auto, using(crate::proofs::Told::least_append))]
+#[tactic(auto, using(crate::proofs::Told::Least::least_append))]
 pub fn found(nodes: &Nodes, frames: &Pile<Frame>) -> Option<usize>
     ensures { result ≡ least.least (gauges.found nodes.now frames.now) }
 {

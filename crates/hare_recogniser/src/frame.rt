@@ -152,7 +152,7 @@ impl Frame {
     }
 
     /// The first token of the last kid, where it is a node and so many nodes open round it are too many.
-    #[tactic(auto, using(crate::proofs::KidMarks::deep_last_some, crate::proofs::KidMarks::deep_last_none))]
+    #[tactic(auto, using(crate::proofs::Marks::KidMarks::deep_last_some, crate::proofs::Marks::KidMarks::deep_last_none))]
     pub fn deep_kid(&self, opened: usize) -> Option<usize>
         ensures { result ≡ least (gauges.deep_last opened self.now.kids) }
     {
@@ -185,7 +185,7 @@ fn highest(trees: &[Mark]) -> usize
 }
 
 /// Takes out the last tree, if there is one.
-#[tactic(auto, using(crate::proofs::KidMarks::last_mark_append, crate::proofs::KidMarks::but_last_mark_append))]
+#[tactic(auto, using(crate::proofs::Marks::KidMarks::last_mark_append, crate::proofs::Marks::KidMarks::but_last_mark_append))]
 fn pop_last(trees: &mut Vec<Mark>) -> Option<Mark>
     ensures found { MatchOption result (marks.last_mark trees.old.items ≡ []) (λ m. marks.last_mark trees.old.items ≡ m ∷ []) }
     ensures left { trees.new.items ≡ marks.but_last_mark trees.old.items }

@@ -24,7 +24,7 @@ pub struct Gauged {
 /// Runs the gauge over the tokens from a place of their list on, where this is waited for. Strings side by side are one token.
 ///
 /// The call takes time and memory linear in the tokens that it reads, and no more of the host's stack for deeper trees.
-#[tactic(auto, using(crate::proofs::NumbersWithin::told_within))]
+#[tactic(auto, using(crate::proofs::Told::NumbersWithin::told_within))]
 pub fn gauge(
     alloc: Global,
     tokens: &Tokens,

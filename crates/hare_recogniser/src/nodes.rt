@@ -57,7 +57,7 @@ fn node_of_kind(kind: Kind) -> &'static [bool]
 }
 
 /// The same of what is waited for. The pieces of a form bring no tree to its end, but behind the last of them.
-#[tactic(auto, using(crate::proofs::Opened::nodes_in_one, crate::proofs::Opened::nodes_in_rest))]
+#[tactic(auto, using(crate::proofs::Steps::Opened::nodes_in_one, crate::proofs::Steps::Opened::nodes_in_rest))]
 fn nodes_of_wait(wait: Wait) -> &'static [bool]
     ensures { result.now ≡ gauges.nodes_in (symbols_in wait) }
 {
@@ -137,7 +137,7 @@ impl Nodes {
     }
 
     /// Puts one on top.
-    #[tactic(auto, using(crate::proofs::Opened::opened_le), unfolding(hare_nesting::specs::Gauge::opened))]
+    #[tactic(auto, using(crate::proofs::Steps::Opened::opened_le), unfolding(hare_nesting::specs::Gauge::opened))]
     fn push(&mut self, is_node: bool) -> Result<(), AllocError>
         ensures { OnOk result (self.new ≡ is_node ∷ self.old) }
     {

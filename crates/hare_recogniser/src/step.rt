@@ -16,7 +16,7 @@ use std::alloc::AllocError;
 
 /// Reads the token with this number, of which the class is given: the trees under way that are whole in front of it are closed, and it is
 /// used by the first rule that has a place for it. Rows are made in the buffer.
-#[tactic(auto, using(crate::proofs::SteppedMarks::step_alike), unfolding(hare_nesting::specs::Gauge::step))]
+#[tactic(auto, using(crate::proofs::Steps::SteppedMarks::step_alike), unfolding(hare_nesting::specs::Gauge::step))]
 pub fn step(
     spare: &mut Spare<Mark>,
     number: usize,

@@ -16,7 +16,7 @@ use Rattle.hare_tree.specs.Node.{Head, Node, Nodes, branch, none, more, head}
 use Rattle.hare_tree.specs.Forms.{form_of}
 use Rattle.hare_tree.specs.Levels.{level, admits, sort_in}
 use Rattle.hare_tree.specs.Shape.{is_shaped, are_kids, is_own, is_none, is_absent, is_leaf, is_none_or_comma, kid_pieces}
-use Rattle.hare_tree.proofs.KidSorts.{shaped_kids}
+use Rattle.hare_tree.proofs.TreeKids.KidSorts.{shaped_kids}
 use Rattle.hare_tree.proofs.TreeKids.ShapedKids.{shaped_admits}
 use Rattle.hare_modules.specs.Uses.{listed, kids, kid}
 use Rattle.hare_depends.specs.Sorts.{sort_by, sort_of_global, has_type}

@@ -2,3 +2,4 @@
 pub mod KidsFrom
 pub mod Behind
 pub mod ShapedKids
+pub mod KidSorts

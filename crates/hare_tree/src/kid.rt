@@ -17,7 +17,7 @@ use crate::kind::Kind;
 ///
 /// The kid of a shaped tree is absent or shaped of this sort, where Left and Right are read by the tree's own level. The kid in which a
 /// trailing comma may stand is that comma, or absent.
-#[tactic(auto, using(crate::proofs::KidSorts::kid_is_of_sort))]
+#[tactic(auto, using(crate::proofs::TreeKids::KidSorts::kid_is_of_sort))]
 pub fn kid_sort(k: Kind, kids: usize, i: usize) -> Option<Sort>
     ensures value { result ≡ spec.kid_sort k kids i }
     ensures shaped { (s : form_sort.Sort) (h : Head) (ts : List Node) (t : Node) → h.kind ≡ k → length ts ≡ kids →

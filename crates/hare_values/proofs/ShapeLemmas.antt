@@ -14,7 +14,7 @@ use Rattle.hare_tree.specs.Node.{Head, Node, Nodes, branch, none, more, nodes_of
 use Rattle.hare_tree.specs.Forms.{form_of, declared}
 use Rattle.hare_tree.specs.Levels.{level, sort_in}
 use Rattle.hare_tree.specs.Shape.{is_shaped, is_absent, are_kids, kid_pieces}
-use Rattle.hare_tree.proofs.KidSorts.{shaped_kids}
+use Rattle.hare_tree.proofs.TreeKids.KidSorts.{shaped_kids}
 use Rattle.hare_rules.specs.Finished.{expression}
 use Rattle.hare_modules.specs.Uses.{listed}
 use Rattle.hare_modules.proofs.Trees.{listed-nodes_of}

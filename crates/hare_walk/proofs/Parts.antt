@@ -9,7 +9,7 @@ use Rattle.hare_tree.specs.Node.{Node, Nodes, branch, none, more, kids_of, nodes
 use Rattle.hare_tree.specs.Levels.{sort_in, level}
 use Rattle.hare_tree.specs.KidSorts.{kid_sort, IsKid}
 use Rattle.hare_tree.specs.Shape.{is_shaped, is_leaf, is_absent, is_none, is_none_or_comma}
-use Rattle.hare_tree.proofs.KidSorts.{kid_is_of_sort}
+use Rattle.hare_tree.proofs.TreeKids.KidSorts.{kid_is_of_sort}
 use Rattle.hare_types.specs.Store.{Store}
 use Rattle.hare_typed.specs.Typed.{TypedNode, typed_nodes}
 use Rattle.hare_typed.specs.Erased.{erase, erase_each}

@@ -14,7 +14,7 @@ use Rattle.hare_tree.specs.Forms.{form_of}
 use Rattle.hare_tree.specs.Levels.{level, is_type}
 use Rattle.hare_tree.specs.Node.{Head, Node}
 use Rattle.hare_tree.specs.Shape.{is_shaped, are_kids, kid_pieces}
-use Rattle.hare_tree.proofs.KidSorts.{shaped_kids}
+use Rattle.hare_tree.proofs.TreeKids.KidSorts.{shaped_kids}
 use Rattle.hare_tree.proofs.TreeKids.ShapedKids.{AllShaped, shaped_admits, kids_of_shaped}
 use Rattle.hare_types.specs.declared.coercion.Ty.{Ty}
 use Rattle.hare_types.specs.declared.coercion.Ty.TheVariants as ty

@@ -9,8 +9,8 @@ use Rattle.hare_tree.specs.Shape.{has_no_suffix}
 use Rattle.hare_tree.specs.Grammar.{is_string, is_proper_string, string_at, joined_to, joined, unplaced, Spells}
 use Rattle.hare_tree.specs.Size.{string_bytes_in}
 use Rattle.hare_tree.proofs.Low.Fitting.{fits_file_parts}
-use Rattle.hare_tree.proofs.Counts.{shaped_files_are_small}
-use Rattle.hare_tree.proofs.Texts.{texts_are_spelled}
+use Rattle.hare_tree.proofs.Sizes.Counts.{shaped_files_are_small}
+use Rattle.hare_tree.proofs.Sizes.Texts.{texts_are_spelled}
 use Rattle.hare_lex.specs.Order.{AreInOrder}
 use Rattle.hare_lex.proofs.Order.Ordered.{tokens_are_in_order, tokens_are_few}
 use Rattle.hare_decl.specs.Trees.{SourcesFit, SourcesStandOverTokens, SourcesHaveFewNodes, SourcesHaveFewTexts}

@@ -11,7 +11,7 @@ use Rattle.hare_tree.specs.Words.{suffix_word, Base, Decimal, Hexadecimal, Octal
 use Rattle.hare_tree.specs.Spelling.{IsNumber}
 use Rattle.hare_lex.specs.Lexing.{longest, suffixes, suffix_named, radix_of, mark_len_of, number_in, number_at, value_of}
 use Rattle.hare_lex.proofs.Fronts.Lists.{and_left, and_right, run_passes, run_within}
-use Rattle.hare_lex.proofs.Longest.{front_suffix, suffix_most, suffix_no_digit, no_suffix_digit, longest_within}
+use Rattle.hare_lex.proofs.Fronts.Longest.{front_suffix, suffix_most, suffix_no_digit, no_suffix_digit, longest_within}
 
 abbrev digit : ℕ → ℕ → Bool
 digit r c = is_digit c r

@@ -11,7 +11,7 @@ use Rattle.hare_tree.specs.Spelling.{IsSpellingOf}
 use Rattle.hare_lex.specs.declared.front.Found.TheVariants as found
 use Rattle.hare_lex.specs.Lexing.{mark_front, longest}
 use Rattle.hare_lex.proofs.Fronts.Firsts.{is_first}
-use Rattle.hare_lex.proofs.Longest.{longest_listed, longest_most, longest_within, mark_short, mark_of_first}
+use Rattle.hare_lex.proofs.Fronts.Longest.{longest_listed, longest_most, longest_within, mark_short, mark_of_first}
 use Rattle.hare_lex.specs.Fronts.{Sound}
 use Rattle.hare_lex.proofs.Fronts.Standing.{first_same, kind_first, not_left_out, no_fraction, standing, fits_by, nothing_small, len_front}
 

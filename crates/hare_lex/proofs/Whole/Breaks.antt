@@ -18,7 +18,7 @@ use Rattle.hare_lex.specs.declared.front.Found.TheVariants as found
 use Rattle.hare_lex.specs.Lexing.{at_front, mark_front, closing, escape, one, bad_escape, string_end, rune_end, longest}
 use Rattle.hare_lex.proofs.Fronts.Lists.{and_left, and_both}
 use Rattle.hare_lex.proofs.Fronts.Firsts.{is_first, first_of_kind}
-use Rattle.hare_lex.proofs.Longest.{longest_listed}
+use Rattle.hare_lex.proofs.Fronts.Longest.{longest_listed}
 use Rattle.hare_lex.proofs.Literals.Escapes.{escape_read}
 use Rattle.hare_lex.proofs.Literals.Strings.{bad_here}
 use Rattle.hare_lex.proofs.Literals.Runes.{one_some, one_small}

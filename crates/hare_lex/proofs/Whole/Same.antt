@@ -15,9 +15,9 @@ use Rattle.hare_tree.specs.Spelling.{IsSpellingOf, IsNumber, IsEscape, IsPart, s
 use Rattle.hare_lex.specs.Lexing.{string_text, inner, unescaped, bad_escape, one, longest, suffixes, suffix_named, number_at, number_in, radix_of, mark_len_of}
 use Rattle.hare_lex.proofs.Fronts.Lists.{and_left, and_right, front_is, behind_is}
 use Rattle.hare_lex.proofs.Fronts.Firsts.{is_other, first_of_kind}
-use Rattle.hare_lex.proofs.Longest.{named_suffix, suffix_no_digit, no_suffix_digit, suffix_most, longest_within}
+use Rattle.hare_lex.proofs.Fronts.Longest.{named_suffix, suffix_no_digit, no_suffix_digit, suffix_most, longest_within}
 use Rattle.hare_lex.proofs.Literals.Numbers.{digits_at, radix_has, one_zero}
-use Rattle.hare_lex.proofs.Steps.{unescaped_skip, bad_escape_skip}
+use Rattle.hare_lex.proofs.Turns.Steps.{unescaped_skip, bad_escape_skip}
 use Rattle.hare_lex.proofs.Literals.Escapes.{escape_stands, escape_first}
 use Rattle.hare_lex.proofs.Literals.Strings.{unescaped_plain, unescaped_escape, bad_plain, bad_behind}
 use Rattle.hare_lex.proofs.Literals.Runes.{one_stands}

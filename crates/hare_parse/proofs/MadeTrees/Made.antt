@@ -12,7 +12,7 @@ use Rattle.hare_parse.specs.Heights.{IsBound}
 use Rattle.hare_parse.specs.Runs.{HoldsTree}
 use Rattle.hare_parse.specs.Files.{imports, others, HaveSorts, HoldsFile, file_made}
 use Rattle.hare_parse.proofs.MadeTrees.FileParts.{imports_in, others_in}
-use Rattle.hare_parse.proofs.Heights.{high}
+use Rattle.hare_parse.proofs.Kids.Heights.{high}
 
 pub holds_tree : (s : Sort) (file : ℕ) (ts rest : List Token) (gs : List Group) → run file ts (of s ∷ []) bottom ≡ Done rest gs →
     HoldsTree gs

@@ -8,9 +8,9 @@ use Rattle.hare_ll_table.specs.declared.answer.Answer.TheVariants as an
 use Rattle.hare_recogniser.specs.Capped.{cap_marks, cap_frame, capped, capped_step}
 use Rattle.hare_recogniser.specs.Gauged.{Answers}
 use Rattle.hare_recogniser.specs.Least.{lesser, least}
-use Rattle.hare_recogniser.proofs.Capping.{first_capped}
-use Rattle.hare_recogniser.proofs.SteppedMarks.{step_alike}
-use Rattle.hare_recogniser.proofs.Told.{lesser_assoc, least_append}
+use Rattle.hare_recogniser.proofs.Marks.Capping.{first_capped}
+use Rattle.hare_recogniser.proofs.Steps.SteppedMarks.{step_alike}
+use Rattle.hare_recogniser.proofs.Told.Least.{lesser_assoc, least_append}
 
 -- ---- what is told does not depend on heights above 256
 

@@ -16,7 +16,7 @@ use Rattle.hare_nesting.specs.Gauge.{Seen, seen_in, numbered}
 use Rattle.hare_recogniser.specs.Width.{strings_in_front, width}
 use Rattle.hare_recogniser.specs.Gauged.{seen_from}
 use Rattle.hare_ll_table.proofs.SeenTokens.Joining.{read_drop, drop_past}
-use Rattle.hare_recogniser.proofs.Widths.{front}
+use Rattle.hare_recogniser.proofs.Steps.Widths.{front}
 
 -- the token with this number in place of its line
 abbrev renumbered : ℕ → Token → Token

@@ -11,7 +11,7 @@ use Rattle.hare_tree.specs.declared.form.Piece.TheVariants as pi
 use Rattle.hare_tree.specs.Node.{Head, Node, Nodes, branch, none, more, head, kids_of, nodes_of, size_of, sizes_of}
 use Rattle.hare_tree.specs.Forms.{form_of}
 use Rattle.hare_tree.specs.Shape.{edges, behind_item, behind_kid, is_none, is_dots, is_empty, form_begins_labelled, begins_labelled, first_labelled, is_yield, yields_label}
-use Rattle.hare_tree.proofs.Sizes.{kid_size}
+use Rattle.hare_tree.proofs.Sizes.Kids.{kid_size}
 use Rattle.hare_tree.specs.Judged.{nodes_from, first_kind, begins_with_kid, begins_with_label}
 
 -- all kids but the first

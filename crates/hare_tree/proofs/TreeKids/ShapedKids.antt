@@ -14,7 +14,7 @@ use Rattle.hare_tree.specs.Node.{Head, Node, Nodes, branch, none, more, head}
 use Rattle.hare_tree.specs.Forms.{form_of}
 use Rattle.hare_tree.specs.Levels.{level, admits, sort_in}
 use Rattle.hare_tree.specs.Shape.{is_shaped, are_kids, is_own, is_none, is_absent, is_leaf, is_none_or_comma, is_none_or_dots, kid_pieces}
-use Rattle.hare_tree.proofs.KidSorts.{shaped_kids}
+use Rattle.hare_tree.proofs.TreeKids.KidSorts.{shaped_kids}
 
 -- what stands for nothing, a trailing comma and `...` are shaped as what is no expression
 leaf_shaped : (p : Kind → Bool) (t : Node) →

@@ -4,7 +4,7 @@ use Rattle.hare_tree.specs.Grammar.{joined}
 use Rattle.hare_automaton.specs.Engine.{Done, run, bottom}
 use Rattle.hare_automaton.specs.OneTree.{file_symbols}
 use Rattle.hare_parse.specs.Files.{HaveSorts, file_made}
-use Rattle.hare_parse.proofs.Heights.{high}
+use Rattle.hare_parse.proofs.Kids.Heights.{high}
 use Rattle.hare_decl.proofs.SourceTrees.Low.{low_files}
 use Rattle.hare_decl.proofs.RunOutcomes.Over.{low_whole}
 use Rattle.hare_decl.proofs.syntax.syntax_of.Goals as goal

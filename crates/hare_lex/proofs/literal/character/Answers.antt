@@ -1,7 +1,7 @@
 use Rattle.std.proofs.Common.{refl, ap, ◌∙◌}
 use Rattle.std.proofs.lemmas.Str.{is_utf8-from_IsUtf8}
 use Rattle.hare_lex.specs.Lexing.{only_char}
-use Rattle.hare_lex.proofs.Steps.{not_utf8}
+use Rattle.hare_lex.proofs.Turns.Steps.{not_utf8}
 use Rattle.hare_lex.proofs.literal.character.Goals as goal
 
 pub returns-in-Ok : goal.returns-in-Ok

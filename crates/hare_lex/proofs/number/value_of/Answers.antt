@@ -1,5 +1,5 @@
 use Rattle.std.proofs.Common.{arith, sym, ◌∙◌}
-use Rattle.hare_lex.proofs.Steps.{value_step, value_stop}
+use Rattle.hare_lex.proofs.Turns.Steps.{value_step, value_stop}
 use Rattle.hare_lex.proofs.number.value_of.Goals as goal
 
 pub returns-in_err-value : goal.returns-in_err-value

@@ -1,6 +1,6 @@
 use Rattle.std.proofs.Common.{◌∙◌, sym, ap, arith}
 use Rattle.hare_lex.specs.Lexing.{bad_escape}
-use Rattle.hare_lex.proofs.Steps.{bad_escape_at}
+use Rattle.hare_lex.proofs.Turns.Steps.{bad_escape_at}
 use Rattle.hare_lex.proofs.string.bad_escape.Goals as goal
 
 pub loop-first-preserved : goal.loop-first-preserved

@@ -1,6 +1,6 @@
 use Rattle.std.proofs.Common.{◌∙◌, ◌++◌, List, ℕ, sym, ap}
 use Rattle.hare_lex.specs.Lexing.{unescaped}
-use Rattle.hare_lex.proofs.Steps.{unescaped_more}
+use Rattle.hare_lex.proofs.Turns.Steps.{unescaped_more}
 use Rattle.hare_lex.proofs.string.unescaped.Goals as goal
 
 pub loop-first-preserved-in-Some-escape_at : goal.loop-first-preserved-in-Some-escape_at

@@ -1,5 +1,5 @@
 use Rattle.std.proofs.Common.{rules}
-use Rattle.hare_lex.proofs.ShortMarks.{front_of_two}
+use Rattle.hare_lex.proofs.Fronts.ShortMarks.{front_of_two}
 use Rattle.hare_lex.proofs.table.mark_len.Goals as goal
 
 pub returns-in-len2-up-clause-value : goal.returns-in-len2-up-clause-value

@@ -1,7 +1,7 @@
 use Rattle.std.proofs.Common.{◌≡◌, ◌<◌, ◌≤◌, ◌+◌, ◌^◌, ◌++◌, append_assoc, ap, sym, ◌∙◌, arith}
 use Rattle.hare_tree.specs.Node.{nodes_of, size_of, sizes_of}
 use Rattle.hare_tree.specs.Judged.{nodes_from}
-use Rattle.hare_tree.proofs.Sizes.{kid_size}
+use Rattle.hare_tree.proofs.Sizes.Kids.{kid_size}
 use Rattle.hare_tree.proofs.TreeKids.KidsFrom.{nodes_from-get, nodes_from-past}
 use Rattle.hare_directory.specs.Seen.{tables_of}
 use Rattle.hare_names.specs.Scopes.{bindings_in, bindings_among, bound_by, bound_among, bound_itself}

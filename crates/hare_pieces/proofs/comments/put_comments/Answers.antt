@@ -1,6 +1,6 @@
 use Rattle.std.proofs.Common.{Some, drop, subst, refl, arith}
 use Rattle.hare_lex.specs.Fronts.{IsGapPart}
-use Rattle.hare_pieces.proofs.Passed.{leads_part}
+use Rattle.hare_pieces.proofs.Walk.Passed.{leads_part}
 use Rattle.hare_pieces.proofs.comments.put_comments.Goals as goal
 
 pub gap-preserved : goal.gap-preserved

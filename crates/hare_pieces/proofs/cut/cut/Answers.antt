@@ -1,7 +1,7 @@
 use Rattle.std.proofs.Common.{◌≡◌, ◌+◌, ◌<◌, sym, subst, length, arith}
 use Rattle.std.proofs.lemmas.Bool.Decides.{nat_tests}
 use Rattle.hare_tree.specs.Tokens.{is_path_mark}
-use Rattle.hare_pieces.proofs.Walked.{Walked, walked_start, walked_more, walked_end, no_fault}
+use Rattle.hare_pieces.proofs.Walk.Walked.{Walked, walked_start, walked_more, walked_end, no_fault}
 use Rattle.hare_pieces.proofs.cut.cut.Goals as goal
 
 pub tokens-init : goal.tokens-init

@@ -1,5 +1,5 @@
 use Rattle.std.proofs.Common.{length}
-use Rattle.hare_pieces.proofs.Walked.{Walked}
+use Rattle.hare_pieces.proofs.Walk.Walked.{Walked}
 use Rattle.hare_pieces.proofs.cut.cut.Given as goal
 
 -- the tokens before the rest are cut

@@ -1,4 +1,4 @@
-use Rattle.hare_pieces.proofs.Once.{only_pieces}
+use Rattle.hare_pieces.proofs.OneList.Once.{only_pieces}
 use Rattle.hare_pieces.proofs.cut.pieces_of.Goals as goal
 
 pub returns-clause-only : goal.returns-clause-only

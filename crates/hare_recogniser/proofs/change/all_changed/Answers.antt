@@ -1,5 +1,5 @@
 use Rattle.std.proofs.Common.{◌∙◌}
-use Rattle.hare_recogniser.proofs.Capping.{next_changed}
+use Rattle.hare_recogniser.proofs.Marks.Capping.{next_changed}
 use Rattle.hare_recogniser.proofs.change.all_changed.Goals as goal
 
 pub loop-change-preserved : goal.loop-change-preserved

@@ -3,8 +3,8 @@ use Rattle.std.specs.Prelude.{Some, None}
 use Rattle.hare_recogniser.specs.Gauged.{gauged_from}
 use Rattle.hare_recogniser.specs.Least.{least}
 use Rattle.hare_ll_table.specs.Seen.{waited}
-use Rattle.hare_recogniser.proofs.NumbersWithin.{told_within, told_from_start}
-use Rattle.hare_recogniser.proofs.Told.{told_place, nothing_told}
+use Rattle.hare_recogniser.proofs.Told.NumbersWithin.{told_within, told_from_start}
+use Rattle.hare_recogniser.proofs.Told.Least.{told_place, nothing_told}
 use Rattle.hare_recogniser.proofs.gauge.gauge.Goals as goal
 
 pub returns-in-Some-clause-fault : goal.returns-in-Some-clause-fault

@@ -3,7 +3,7 @@ use Rattle.std.proofs.lemmas.Option.{slice_get_within}
 use Rattle.hare_recogniser.specs.declared.run.Stop.TheVariants as so
 use Rattle.hare_recogniser.proofs.GaugedRun.GaugedLoop.{ReadsAt, goes_at, ends_here, stuck_here, used_up_here, stops_at}
 use Rattle.hare_ll_table.proofs.SeenTokens.Places.{place_further}
-use Rattle.hare_recogniser.proofs.Widths.{begins_with_front}
+use Rattle.hare_recogniser.proofs.Steps.Widths.{begins_with_front}
 use Rattle.hare_recogniser.proofs.run.run.Goals as goal
 
 pub number_of-number-requires-clause-within : goal.number_of-number-requires-clause-within

@@ -1,7 +1,7 @@
 use Rattle.std.proofs.Common.{◌≡◌, ◌<◌, false, true, ap, sym, ◌∙◌, refl, arith}
 use Rattle.hare_tree.specs.Node.{nodes_of, size_of, sizes_of}
 use Rattle.hare_tree.specs.Judged.{keeps_low, keep_low, kid_keeps, nodes_from}
-use Rattle.hare_tree.proofs.Sizes.{kid_size}
+use Rattle.hare_tree.proofs.Sizes.Kids.{kid_size}
 use Rattle.hare_tree.proofs.TreeKids.KidsFrom.{nodes_from-get, nodes_from-past}
 use Rattle.hare_tree.proofs.Low.Limits.{keeps-open, keeps-full, keeps-then, keeps-else, keep_low-none, keep_low-step}
 use Rattle.hare_tree.proofs.depth.+depth.Goals as goal

@@ -1,6 +1,6 @@
 use Rattle.std.proofs.Common.{◌∙◌, Some}
 use Rattle.hare_tree.specs.declared.form.Sort.TheVariants as so
-use Rattle.hare_tree.proofs.KidSorts.{dots-behind}
+use Rattle.hare_tree.proofs.TreeKids.KidSorts.{dots-behind}
 use Rattle.hare_tree.proofs.kid.element_sort.Goals as goal
 
 pub returns-else-i-items : goal.returns-else-i-items

@@ -1,5 +1,5 @@
 use Rattle.std.proofs.Common.{◌∙◌, Some}
-use Rattle.hare_tree.proofs.KidSorts.{comma-behind}
+use Rattle.hare_tree.proofs.TreeKids.KidSorts.{comma-behind}
 use Rattle.hare_tree.proofs.kid.item_sort.Goals as goal
 
 pub returns : goal.returns

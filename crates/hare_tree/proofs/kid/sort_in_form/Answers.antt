@@ -1,5 +1,5 @@
 use Rattle.std.proofs.Common.{inl, inr, ◌∙◌}
-use Rattle.hare_tree.proofs.KidSorts.{step-fixed, step-own, step-kid, step-optional, step-led, step-followed, step-value}
+use Rattle.hare_tree.proofs.TreeKids.KidSorts.{step-fixed, step-own, step-kid, step-optional, step-led, step-followed, step-value}
 use Rattle.hare_tree.proofs.kid.sort_in_form.Goals as goal
 use Rattle.hare_tree.proofs.kid.sort_in_form.Goals.{in-Fixed, in-Kid+else-number-eq0}
 

@@ -6,7 +6,7 @@ use Rattle.hare_tree.specs.Levels.{admits}
 use Rattle.hare_tree.specs.Shape.{edges, behind_kid, is_none, is_none_or_dots}
 use Rattle.hare_tree.specs.Judged as spec
 use Rattle.hare_tree.specs.Judged.{nodes_from, judged, judged_behind, judged_tree, judged_first, judged_optional, judged_followed, both}
-use Rattle.hare_tree.proofs.Sizes.{kid_size}
+use Rattle.hare_tree.proofs.Sizes.Kids.{kid_size}
 use Rattle.hare_tree.proofs.Spelling.Spelled.{drop-past}
 use Rattle.hare_tree.proofs.TreeKids.KidsFrom.{nodes_from-get, nodes_from-past, kids_of-open}
 use Rattle.hare_tree.proofs.TreeKids.Behind.{pieces-at, kid_size-tree}

@@ -5,7 +5,7 @@ use Rattle.hare_tree.specs.Node.{head, kids_of, nodes_of, size_of, sizes_of}
 use Rattle.hare_tree.specs.Forms.{form_of}
 use Rattle.hare_tree.specs.Spell.{stands_alone}
 use Rattle.hare_tree.specs.Judged.{nodes_from}
-use Rattle.hare_tree.proofs.Sizes.{kid_size}
+use Rattle.hare_tree.proofs.Sizes.Kids.{kid_size}
 use Rattle.hare_tree.proofs.Spelling.Spelled.{spell-pieces}
 use Rattle.hare_tree.proofs.TreeKids.KidsFrom.{nodes_from-get, nodes_from-one, nodes_from-past, kids_of-open}
 use Rattle.hare_ways.specs.Parts.{part_of, nodes_behind}

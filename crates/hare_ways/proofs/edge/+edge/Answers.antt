@@ -1,6 +1,6 @@
 use Rattle.std.proofs.Common.{◌<◌, ap, sym, ◌∙◌, arith}
 use Rattle.hare_tree.specs.Node.{nodes_of, size_of, sizes_of}
-use Rattle.hare_tree.proofs.Sizes.{kid_size}
+use Rattle.hare_tree.proofs.Sizes.Kids.{kid_size}
 use Rattle.hare_tree.proofs.TreeKids.KidsFrom.{nodes_from-get, nodes_from-past}
 use Rattle.hare_ways.specs.Edges.{first_ends}
 use Rattle.hare_ways.proofs.edge.+edge.Goals as goal

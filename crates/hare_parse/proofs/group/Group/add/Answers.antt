@@ -1,4 +1,4 @@
-use Rattle.hare_parse.proofs.Heights.{bound_add, bound_add_last}
+use Rattle.hare_parse.proofs.Kids.Heights.{bound_add, bound_add_last}
 use Rattle.hare_parse.proofs.group.Group.add.Goals as goal
 
 pub invariant_of-self-2 : goal.invariant_of-self-2

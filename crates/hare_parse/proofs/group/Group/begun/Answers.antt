@@ -1,4 +1,4 @@
-use Rattle.hare_parse.proofs.Heights.{bound_none}
+use Rattle.hare_parse.proofs.Kids.Heights.{bound_none}
 use Rattle.hare_parse.proofs.group.Group.begun.Goals as goal
 
 pub invariant_of-result : goal.invariant_of-result

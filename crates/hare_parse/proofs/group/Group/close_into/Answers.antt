@@ -1,6 +1,6 @@
 use Rattle.std.proofs.Common.{sym, subst}
 use Rattle.hare_parse.specs.Heights.{IsBound}
-use Rattle.hare_parse.proofs.Heights.{high, height_branch}
+use Rattle.hare_parse.proofs.Kids.Heights.{high, height_branch}
 use Rattle.hare_parse.proofs.group.Group.close_into.Goals as goal
 
 pub add-requires : goal.add-requires

@@ -1,7 +1,7 @@
 use Rattle.std.proofs.Common.{◌≡◌, List, ◌++◌, ap, sym, ◌∙◌}
 use Rattle.hare_tree.specs.Node.{Node}
 use Rattle.hare_automaton.specs.Engine.{Group}
-use Rattle.hare_parse.proofs.Heights.{bound_append, bound_append_last}
+use Rattle.hare_parse.proofs.Kids.Heights.{bound_append, bound_append_last}
 use Rattle.hare_parse.proofs.group.Group.lift.Goals as goal
 
 same_kids : (g h : Group) → g ≡ h → g.kids ≡ h.kids

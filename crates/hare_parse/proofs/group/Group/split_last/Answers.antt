@@ -1,7 +1,7 @@
 use Rattle.std.proofs.Common.{◌≡◌, List, ap, sym, ◌∙◌}
 use Rattle.hare_tree.specs.Node.{Node}
 use Rattle.hare_automaton.specs.Engine.{Group, last_kid}
-use Rattle.hare_parse.proofs.Heights.{bound_last}
+use Rattle.hare_parse.proofs.Kids.Heights.{bound_last}
 use Rattle.hare_parse.proofs.group.Group.split_last.Goals as goal
 
 same_last : (g h : Group) → g ≡ h → last_kid g.kids ≡ last_kid h.kids

@@ -1,4 +1,4 @@
-use Rattle.hare_parse.proofs.Heights.{bound_rest, bound_rest_last}
+use Rattle.hare_parse.proofs.Kids.Heights.{bound_rest, bound_rest_last}
 use Rattle.hare_parse.proofs.group.Group.take_last.Goals as goal
 
 pub invariant_of-self : goal.invariant_of-self

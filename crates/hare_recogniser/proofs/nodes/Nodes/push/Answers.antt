@@ -1,6 +1,6 @@
 use Rattle.std.proofs.Common.{reverse, arith}
 use Rattle.std.proofs.lemmas.List.{length-reverse}
-use Rattle.hare_recogniser.proofs.Opened.{opened_le}
+use Rattle.hare_recogniser.proofs.Steps.Opened.{opened_le}
 use Rattle.hare_recogniser.proofs.nodes.Nodes.push.Goals as goal
 
 pub overflow_add-self : goal.overflow_add-self

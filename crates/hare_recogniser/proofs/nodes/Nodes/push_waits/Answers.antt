@@ -1,5 +1,5 @@
 use Rattle.std.proofs.Common.{◌++◌, ◌<◌, sym, ap, arith}
-use Rattle.hare_recogniser.proofs.Opened.{nodes_in_none, nodes_pushed}
+use Rattle.hare_recogniser.proofs.Steps.Opened.{nodes_in_none, nodes_pushed}
 use Rattle.hare_recogniser.proofs.nodes.Nodes.push_waits.Goals as goal
 
 pub loop-left-init : goal.loop-left-init

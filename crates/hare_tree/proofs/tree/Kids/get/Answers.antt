@@ -1,5 +1,5 @@
 use Rattle.std.proofs.Common.{◌≡◌, sym, ◌∙◌}
-use Rattle.hare_tree.proofs.Sizes.{kid_smaller}
+use Rattle.hare_tree.proofs.Sizes.Kids.{kid_smaller}
 use Rattle.hare_tree.proofs.tree.Kids.get.Goals as goal
 
 pub returns-clause-smaller : goal.returns-clause-smaller

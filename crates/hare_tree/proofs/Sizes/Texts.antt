@@ -18,8 +18,8 @@ use Rattle.hare_tree.specs.Spell.{word_token, spell, spell_all}
 use Rattle.hare_tree.specs.Shape.{is_shaped}
 use Rattle.hare_tree.specs.Grammar.{is_string}
 use Rattle.hare_tree.specs.Size.{is_text, text_bytes, texts_bytes, TextsAreSpelled}
-use Rattle.hare_tree.proofs.Weights.{weight, kids_weight, own_weight, pieces_weight, side_weight}
-use Rattle.hare_tree.proofs.KidSorts.{shaped_kids}
+use Rattle.hare_tree.proofs.Sizes.Weights.{weight, kids_weight, own_weight, pieces_weight, side_weight}
+use Rattle.hare_tree.proofs.TreeKids.KidSorts.{shaped_kids}
 use Rattle.hare_tree.proofs.TreeKids.ShapedKids.{AllShaped, kids_of_shaped}
 
 -- a token weighs the bytes of its text, if it is a string

@@ -21,8 +21,8 @@ use Rattle.hare_tree.specs.Levels.{level, admits}
 use Rattle.hare_tree.specs.Spell.{own_tokens, parts_from, path_tokens, word_token, spell, spell_all}
 use Rattle.hare_tree.specs.Shape.{is_shaped, is_none, are_kids, kid_pieces}
 use Rattle.hare_tree.specs.Size.{node_count, kid_count, ShapedTreesAreSmall, ShapedFilesAreSmall}
-use Rattle.hare_tree.proofs.Weights.{weight, kids_weight, own_weight, pieces_weight, side_weight}
-use Rattle.hare_tree.proofs.KidSorts.{shaped_kids}
+use Rattle.hare_tree.proofs.Sizes.Weights.{weight, kids_weight, own_weight, pieces_weight, side_weight}
+use Rattle.hare_tree.proofs.TreeKids.KidSorts.{shaped_kids}
 use Rattle.hare_tree.proofs.TreeKids.ShapedKids.{AllShaped, absent, absents, room_for, shaped_admits, something, kids_of_shaped}
 
 -- each token has room for eight nodes

@@ -12,7 +12,7 @@ use Rattle.hare_lex.proofs.Turns.Gaps.{gap_is}
 use Rattle.hare_pieces.specs.declared.piece.Piece.{Piece}
 use Rattle.hare_pieces.specs.Pieces.{ConsistsOf}
 use Rattle.hare_pieces.specs.Walk.{Leads, with_part}
-use Rattle.hare_pieces.proofs.Fronts.{blank_front, comment_front, blank_gap}
+use Rattle.hare_pieces.proofs.OneList.Fronts.{blank_front, comment_front, blank_gap}
 
 pub leads_start : (at : ℕ) (s : List ℕ) (old : List Piece) → Leads at s old old 0
 leads_start at s old = record {

@@ -16,8 +16,8 @@ use Rattle.hare_lex.proofs.Whole.Unique.{one_token}
 use Rattle.hare_pieces.specs.declared.piece.Piece.{Piece}
 use Rattle.hare_pieces.specs.Pieces.{ConsistsOf, HasTokens, ArePieces, are_blank}
 use Rattle.hare_pieces.specs.Walk.{Leads}
-use Rattle.hare_pieces.proofs.Fronts.{token_front}
-use Rattle.hare_pieces.proofs.Passed.{leads_skip}
+use Rattle.hare_pieces.proofs.OneList.Fronts.{token_front}
+use Rattle.hare_pieces.proofs.Walk.Passed.{leads_skip}
 
 -- The text has tokens, of which these are left. What those before them and the comments among them are is put; the rest is read as those
 -- that are left, and begins behind so many bytes.

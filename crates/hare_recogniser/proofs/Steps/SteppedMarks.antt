@@ -8,7 +8,7 @@ use Rattle.hare_automaton.specs.Table.{row}
 use Rattle.hare_nesting.specs.Marks.{Frame, close, all_changed}
 use Rattle.hare_nesting.specs.Gauge.{Step, Goes, Ends, wanted, acted, step}
 use Rattle.hare_recogniser.specs.Capped.{capped, capped_step}
-use Rattle.hare_recogniser.proofs.Capping.{close_alike, all_changed_alike}
+use Rattle.hare_recogniser.proofs.Marks.Capping.{close_alike, all_changed_alike}
 
 wanted_alike : (b : Bool) (st : List Symbol) (fs gs : List Frame) → capped fs ≡ capped gs →
     capped_step (wanted b (Goes st fs)) ≡ capped_step (wanted b (Goes st gs))

@@ -17,7 +17,7 @@ use Rattle.hare_nesting.specs.Marks.{Mark, Frame, lies_before, first_in, mark_as
 use Rattle.hare_nesting.specs.Gauge.{opened, nodes_in, deep_frame, deep_last, high_operand, found, Step, Goes, Ends, Stuck, wanted, acted, step, Seen, Gauged, after, gauge, start, numbered, seen_in, seen}
 use Rattle.hare_recogniser.specs.Gauged.{gauged_from, seen_from}
 use Rattle.hare_recogniser.specs.Least.{least}
-use Rattle.hare_recogniser.proofs.Told.{least_within}
+use Rattle.hare_recogniser.proofs.Told.Least.{least_within}
 
 each_append : {A : Type 0} (P : A → Type 0) (xs ys : List A) → AllByRecursion P xs → AllByRecursion P ys → AllByRecursion P (xs ++ ys)
 each_append P [] ys h k = k

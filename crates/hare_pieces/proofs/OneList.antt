@@ -1,0 +1,3 @@
+-- A text has one list of pieces.
+pub mod Fronts
+pub mod Once
