@@ -4,19 +4,19 @@
 
 mod answer;
 mod class;
-mod pile;
 mod row;
 mod rows;
 mod signs;
 mod spare;
+mod stack;
 mod strings;
 mod waits;
 
 pub use answer::Answer;
 pub use class::class_of;
-pub use pile::Pile;
 pub use row::{Action, Row, RowBuffer, Wait, has_sign, of, part};
 pub use rows::row_at;
 pub use spare::Spare;
+pub use stack::Stack;
 pub use strings::{Joined, is_proper_string, place_behind, strings_at};
 pub use waits::{next_symbol, push_waits};

@@ -1,4 +1,4 @@
-//! What is waited for: a pile of symbols, of which those that a form is read by stand as one entry.
+//! What is waited for: a stack of symbols, of which those that a form is read by stand as one entry.
 
 ghost use Rattle.std.specs.Prelude.{◌≡◌, [], ◌∷◌, ◌++◌, List, OnOk, IfOk, MatchOption};
 ghost use Rattle.std.specs.Option.{option_to_list};
@@ -7,14 +7,14 @@ ghost use Rattle.hare_automaton.specs.Rows.{symbols, rest_of};
 ghost use Rattle.hare_ll_table.specs.declared.row.Wait as wait;
 ghost use Rattle.hare_ll_table.specs.Seen.{waited};
 
-use crate::pile::Pile;
 use crate::row::Wait;
+use crate::stack::Stack;
 use hare_automaton::{Rule, Symbol};
 use hare_tree::{Kind, Piece, form_of};
 use std::alloc::AllocError;
 
-/// Puts what is waited for on the pile, the first of it on top. An error is want of memory; part of it may be on the pile then.
-pub fn push_waits(stack: &mut Pile<Wait>, waits: &[Wait]) -> Result<(), AllocError>
+/// Puts what is waited for on the stack, the first of it on top. An error is want of memory; part of it may be on the stack then.
+pub fn push_waits(stack: &mut Stack<Wait>, waits: &[Wait]) -> Result<(), AllocError>
     ensures { OnOk result (waited stack.new ≡ waited waits.now ++ waited stack.old) }
 {
     let mut left = waits.len();
@@ -25,10 +25,10 @@ pub fn push_waits(stack: &mut Pile<Wait>, waits: &[Wait]) -> Result<(), AllocErr
     Ok(())
 }
 
-/// Takes the symbol that is waited for next; none where nothing is. What is left of a form stays on top of the pile, in place of the
+/// Takes the symbol that is waited for next; none where nothing is. What is left of a form stays on top of the stack, in place of the
 /// form, so that no memory is asked for.
 #[tactic(auto, using(crate::proofs::Stack::Rests::one_goes))]
-pub fn next_symbol(stack: &mut Pile<Wait>) -> Result<Option<Symbol>, AllocError>
+pub fn next_symbol(stack: &mut Stack<Wait>) -> Result<Option<Symbol>, AllocError>
     ensures { IfOk result (λ next. MatchOption next ((waited stack.old ≡ []) × (waited stack.new ≡ []))
         (λ s. waited stack.old ≡ s ∷ waited stack.new)) }
 {
@@ -44,9 +44,9 @@ pub fn next_symbol(stack: &mut Pile<Wait>) -> Result<Option<Symbol>, AllocError>
     }
 }
 
-/// The next symbol of what is left of a form, which is the top of the pile. What is left behind the symbol takes its place.
+/// The next symbol of what is left of a form, which is the top of the stack. What is left behind the symbol takes its place.
 #[tactic(auto, using(crate::proofs::Stack::Rests::rest_goes, crate::proofs::Stack::Rests::rest_ends))]
-fn next_of_form(stack: &mut Pile<Wait>, from: usize, kind: Kind) -> Symbol
+fn next_of_form(stack: &mut Stack<Wait>, from: usize, kind: Kind) -> Symbol
     requires { (rest : List wait.Wait) × (stack.old ≡ Wait.Rest from kind ∷ rest) }
     ensures { waited stack.old ≡ result ∷ waited stack.new }
 {

@@ -1,6 +1,6 @@
 -- Trees under way, as the changes of the machine leave them: where they begin, and which limits are passed in them.
 pub mod Lists
-pub mod Piles
+pub mod Stacks
 pub mod Seen
 pub mod SeenSteps
 pub mod Grown

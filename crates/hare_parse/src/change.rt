@@ -8,7 +8,7 @@ ghost use Rattle.hare_automaton.specs.Engine as engine;
 use crate::group::Group;
 use crate::whole::{bare_leaf, full_leaf};
 use hare_automaton::Change;
-use hare_ll_table::{Pile, Spare};
+use hare_ll_table::{Spare, Stack};
 use hare_tree::{Kind, Place, Token, Tree};
 use std::alloc::{AllocError, Global};
 
@@ -18,7 +18,7 @@ pub fn all_changed(
     file: u32,
     token: &Token,
     changes: &[Change],
-    groups: &mut Pile<Group>,
+    groups: &mut Stack<Group>,
 ) -> Result<(), AllocError>
     ensures { OnOk result (groups.new ≡ engine.all_changed file token.now changes.now groups.old) }
 {
@@ -35,7 +35,7 @@ fn changed(
     file: u32,
     token: &Token,
     change: Change,
-    groups: &mut Pile<Group>,
+    groups: &mut Stack<Group>,
 ) -> Result<(), AllocError>
     ensures { OnOk result (groups.new ≡ engine.changed file token.now change groups.old) }
 {
@@ -70,7 +70,7 @@ pub fn start_of(file: u32) -> Place
 
 /// The tree, which has no kids, is the next kid of the innermost tree under way.
 #[tactic(auto, using(crate::proofs::Kids::Heights::bound_one))]
-fn add_leaf(groups: &mut Pile<Group>, tree: Tree) -> Result<(), AllocError>
+fn add_leaf(groups: &mut Stack<Group>, tree: Tree) -> Result<(), AllocError>
     requires { height tree ≤ 1 }
     ensures { OnOk result (groups.new ≡ engine.add tree groups.old) }
 {
@@ -85,7 +85,7 @@ fn add_leaf(groups: &mut Pile<Group>, tree: Tree) -> Result<(), AllocError>
 pub fn close(
     spare: &mut Spare<Tree>,
     kind: Kind,
-    groups: &mut Pile<Group>,
+    groups: &mut Stack<Group>,
 ) -> Result<(), AllocError>
     ensures { OnOk result (groups.new ≡ engine.close kind groups.old) }
 {
@@ -100,7 +100,7 @@ pub fn close(
 }
 
 /// The innermost tree under way takes the token's text, number and suffix.
-fn take_text(alloc: Global, token: &Token, groups: &mut Pile<Group>) -> Result<(), AllocError>
+fn take_text(alloc: Global, token: &Token, groups: &mut Stack<Group>) -> Result<(), AllocError>
     ensures { OnOk result (groups.new ≡ engine.take_text token.now groups.old) }
 {
     let Some(mut group) = groups.pop() else {
@@ -111,7 +111,7 @@ fn take_text(alloc: Global, token: &Token, groups: &mut Pile<Group>) -> Result<(
 }
 
 /// The token's text is put behind that of the innermost tree under way.
-fn join_text(token: &Token, groups: &mut Pile<Group>) -> Result<(), AllocError>
+fn join_text(token: &Token, groups: &mut Stack<Group>) -> Result<(), AllocError>
     ensures { OnOk result (groups.new ≡ engine.join_text token.now groups.old) }
 {
     let Some(mut group) = groups.pop() else {
@@ -122,7 +122,7 @@ fn join_text(token: &Token, groups: &mut Pile<Group>) -> Result<(), AllocError>
 }
 
 /// A tree begins whose first kid is the last of the tree round it.
-fn over(spare: &mut Spare<Tree>, place: Place, groups: &mut Pile<Group>) -> Result<(), AllocError>
+fn over(spare: &mut Spare<Tree>, place: Place, groups: &mut Stack<Group>) -> Result<(), AllocError>
     ensures { OnOk result (groups.new ≡ engine.over place groups.old) }
 {
     let Some(mut group) = groups.pop() else {
@@ -134,7 +134,7 @@ fn over(spare: &mut Spare<Tree>, place: Place, groups: &mut Pile<Group>) -> Resu
 }
 
 /// The kids of the innermost tree under way are those of the tree round it.
-fn lift(spare: &mut Spare<Tree>, groups: &mut Pile<Group>) -> Result<(), AllocError>
+fn lift(spare: &mut Spare<Tree>, groups: &mut Stack<Group>) -> Result<(), AllocError>
     ensures { OnOk result (groups.new ≡ engine.lift groups.old) }
 {
     let Some(group) = groups.pop() else {
@@ -148,7 +148,7 @@ fn lift(spare: &mut Spare<Tree>, groups: &mut Pile<Group>) -> Result<(), AllocEr
 }
 
 /// The innermost tree under way is none.
-fn let_go(spare: &mut Spare<Tree>, groups: &mut Pile<Group>) -> Result<(), AllocError>
+fn let_go(spare: &mut Spare<Tree>, groups: &mut Stack<Group>) -> Result<(), AllocError>
     ensures { OnOk result (groups.new ≡ engine.let_go groups.old) }
 {
     match groups.pop() {

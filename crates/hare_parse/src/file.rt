@@ -14,7 +14,7 @@ ghost use Rattle.hare_parse.specs.Files as spec;
 use crate::group::Group;
 use crate::run::{HIGHEST, Reached, bottom, run, run_low};
 use hare_automaton::Rule;
-use hare_ll_table::{Pile, Wait, part, push_waits};
+use hare_ll_table::{Stack, Wait, part, push_waits};
 use hare_tree::{Kids, Kind, Sort, Tokens, Tree};
 use std::alloc::{AllocError, Global};
 
@@ -88,7 +88,7 @@ pub fn read_low_file(
 }
 
 /// Takes the parts of the file that is under way out, where its trees are low.
-fn low_parts(alloc: Global, groups: &mut Pile<Group>) -> Result<Option<Parts>, AllocError>
+fn low_parts(alloc: Global, groups: &mut Stack<Group>) -> Result<Option<Parts>, AllocError>
     requires { spec.HoldsFile groups.old }
     ensures made { IfOk result (λ o. IfSome o (λ p. groups.old ≡ spec.file_made p.uses p.decls)) }
     ensures sorts { IfOk result (λ o. IfSome o (λ p. spec.HaveSorts p.uses p.decls)) }
@@ -104,10 +104,10 @@ fn low_parts(alloc: Global, groups: &mut Pile<Group>) -> Result<Option<Parts>, A
 }
 
 /// What is waited for in order to read a file.
-fn file_waits(alloc: Global) -> Result<Pile<Wait>, AllocError>
+fn file_waits(alloc: Global) -> Result<Stack<Wait>, AllocError>
     ensures { IfOk result (λ stack. waited stack ≡ file_symbols) }
 {
-    let mut stack = Pile::new(alloc);
+    let mut stack = Stack::new(alloc);
     push_waits(
         &mut stack,
         &[part(Rule::Each(Sort::Use)), part(Rule::Each(Sort::Decl))],
@@ -144,7 +144,7 @@ fn is_import(kind: Kind) -> bool
 }
 
 /// Takes the trees of the file out.
-fn trees_in(groups: &mut Pile<Group>) -> Vec<Tree>
+fn trees_in(groups: &mut Stack<Group>) -> Vec<Tree>
     requires { spec.HoldsFile groups.old }
     ensures { groups.old ≡ engine.begun (start_of 0) result.items ∷ [] }
 {

@@ -15,7 +15,7 @@ use crate::change::start_of;
 use crate::group::Group;
 use crate::run::{Reached, bottom, run};
 use crate::step::step;
-use hare_ll_table::{Answer, Pile, RowBuffer, Spare, Wait, class_of, of};
+use hare_ll_table::{Answer, RowBuffer, Spare, Stack, Wait, class_of, of};
 use hare_tree::{Sort, Suffix, Token, TokenKind, Tokens, Tree, Word};
 use std::alloc::{AllocError, Global};
 
@@ -44,7 +44,7 @@ pub fn read(
         spec.outcome_of o tokens.now) }
     ensures place { IfOk result (λ o. IsPlace tokens.now at (spec.place_of o)) }
 {
-    let mut stack = Pile::new(alloc);
+    let mut stack = Stack::new(alloc);
     stack.push(of(sort))?;
     let mut groups = bottom(alloc)?;
     match run(alloc, file, tokens, at, &mut stack, &mut groups)? {
@@ -63,8 +63,8 @@ pub fn read(
 fn ends(
     alloc: Global,
     file: u32,
-    stack: &mut Pile<Wait>,
-    groups: &mut Pile<Group>,
+    stack: &mut Stack<Wait>,
+    groups: &mut Stack<Group>,
 ) -> Result<bool, AllocError>
     ensures { IfOk result (λ ends. engine.run file (closed []) (waited stack.old) groups.old ≡ spec.outcome_at_end ends groups.new) }
 {
@@ -99,7 +99,7 @@ fn end_token(alloc: Global) -> Token
 }
 
 /// Takes the tree out, of which there is one.
-fn tree_in(groups: &mut Pile<Group>) -> Tree
+fn tree_in(groups: &mut Stack<Group>) -> Tree
     requires { spec.HoldsTree groups.old }
     ensures { groups.old ≡ engine.add result engine.bottom }
 {

@@ -12,7 +12,7 @@ use crate::change::start_of;
 use crate::group::Group;
 use crate::step::step;
 use hare_ll_table::{
-    Answer, Joined, Pile, RowBuffer, Spare, Wait, class_of, is_proper_string, place_behind,
+    Answer, Joined, RowBuffer, Spare, Stack, Wait, class_of, is_proper_string, place_behind,
     strings_at,
 };
 use hare_tree::{Token, Tokens, Tree};
@@ -41,10 +41,10 @@ pub const HIGHEST: usize = 256;
 const MOST_UNDER_WAY: usize = 768;
 
 /// The trees under way before the first token is read.
-pub fn bottom(alloc: Global) -> Result<Pile<Group>, AllocError>
+pub fn bottom(alloc: Global) -> Result<Stack<Group>, AllocError>
     ensures { IfOk result (λ groups. groups ≡ engine.bottom) }
 {
-    let mut groups = Pile::new(alloc);
+    let mut groups = Stack::new(alloc);
     groups.push(Group::begun(alloc, start_of(0), Vec::new(alloc)))?;
     Ok(groups)
 }
@@ -56,8 +56,8 @@ pub fn run(
     file: u32,
     tokens: &Tokens,
     from: usize,
-    stack: &mut Pile<Wait>,
-    groups: &mut Pile<Group>,
+    stack: &mut Stack<Wait>,
+    groups: &mut Stack<Group>,
 ) -> Result<Reached, AllocError>
     ensures value { IfOk result (λ r. engine.run file (joined (drop from tokens.now)) (waited stack.old) groups.old ≡ spec.outcome_in r
         tokens.now groups.new) }
@@ -96,8 +96,8 @@ pub fn run_low(
     alloc: Global,
     file: u32,
     tokens: &Tokens,
-    stack: &mut Pile<Wait>,
-    groups: &mut Pile<Group>,
+    stack: &mut Stack<Wait>,
+    groups: &mut Stack<Group>,
 ) -> Result<Option<Reached>, AllocError>
     ensures value { IfOk result (λ o. IfSome o (λ r. engine.run file (joined tokens.now) (waited stack.old) groups.old ≡
         spec.outcome_in r tokens.now groups.new)) }
@@ -128,7 +128,7 @@ pub fn run_low(
 }
 
 /// Whether few trees are under way, and the kids of the innermost are low.
-fn is_low(groups: &Pile<Group>) -> bool {
+fn is_low(groups: &Stack<Group>) -> bool {
     match groups.top() {
         Some(group) => group.highest() <= HIGHEST && groups.len() <= MOST_UNDER_WAY,
         None => true,
@@ -143,8 +143,8 @@ fn read_at(
     at: usize,
     token: &Token,
     buffer: &mut RowBuffer,
-    stack: &mut Pile<Wait>,
-    groups: &mut Pile<Group>,
+    stack: &mut Stack<Wait>,
+    groups: &mut Stack<Group>,
 ) -> Result<Read, AllocError>
     requires { Some token.now ≡ slice_get tokens.now at }
     ensures { IfOk result (λ r. spec.Reads file tokens.now at (waited stack.old) groups.old r (waited stack.new) groups.new) }

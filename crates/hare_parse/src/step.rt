@@ -9,7 +9,7 @@ use crate::change::{all_changed, close};
 use crate::group::Group;
 use hare_automaton::{Class, Symbol};
 use hare_ll_table::{
-    Answer, Pile, Row, RowBuffer, Spare, Wait, has_sign, next_symbol, push_waits, row_at,
+    Answer, Row, RowBuffer, Spare, Stack, Wait, has_sign, next_symbol, push_waits, row_at,
 };
 use hare_tree::{Token, Tree};
 use std::alloc::AllocError;
@@ -23,8 +23,8 @@ pub fn step(
     token: &Token,
     class: Class,
     buffer: &mut RowBuffer,
-    stack: &mut Pile<Wait>,
-    groups: &mut Pile<Group>,
+    stack: &mut Stack<Wait>,
+    groups: &mut Stack<Group>,
 ) -> Result<Answer, AllocError>
     requires { has_room class }
     ensures { IfOk result (λ a. Says (engine.step file token.now class (waited stack.old) groups.old) a (waited stack.new) groups.new) }

@@ -6,13 +6,13 @@ ghost use Rattle.hare_ll_table.specs.Seen.{waited};
 
 use crate::nodes::{Nodes, nodes_of_symbol};
 use hare_automaton::Symbol;
-use hare_ll_table::{Pile, Wait, next_symbol, push_waits};
+use hare_ll_table::{Stack, Wait, next_symbol, push_waits};
 use std::alloc::{AllocError, Global};
 
 /// What is waited for, and the trees under way that it brings to their end.
 #[derive(Drop)]
 pub struct Agenda {
-    pub waits: Pile<Wait>,
+    pub waits: Stack<Wait>,
     pub nodes: Nodes,
 }
 
@@ -24,7 +24,7 @@ impl Agenda {
         ensures paired { IfOk result IsPaired }
     {
         let mut agenda = Agenda {
-            waits: Pile::new(alloc),
+            waits: Stack::new(alloc),
             nodes: Nodes::new(alloc),
         };
         agenda.push_all(waits)?;

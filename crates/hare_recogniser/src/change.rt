@@ -6,7 +6,7 @@ ghost use Rattle.hare_recogniser.specs.Capped.{capped};
 
 use crate::frame::{Frame, Mark};
 use hare_automaton::Change;
-use hare_ll_table::{Pile, Spare};
+use hare_ll_table::{Spare, Stack};
 use hare_tree::Kind;
 use std::alloc::AllocError;
 
@@ -16,7 +16,7 @@ pub fn all_changed(
     spare: &mut Spare<Mark>,
     number: usize,
     changes: &[Change],
-    frames: &mut Pile<Frame>,
+    frames: &mut Stack<Frame>,
 ) -> Result<(), AllocError>
     ensures { OnOk result (capped frames.new ≡ capped (marks.all_changed number changes.now frames.old)) }
 {
@@ -31,7 +31,7 @@ fn changed(
     spare: &mut Spare<Mark>,
     number: usize,
     change: Change,
-    frames: &mut Pile<Frame>,
+    frames: &mut Stack<Frame>,
 ) -> Result<(), AllocError>
     ensures { OnOk result (capped frames.new ≡ capped (marks.changed number change frames.old)) }
 {
@@ -48,7 +48,7 @@ fn changed(
 }
 
 /// The tree is the next kid of the innermost tree under way.
-fn put(tree: Mark, frames: &mut Pile<Frame>) -> Result<(), AllocError>
+fn put(tree: Mark, frames: &mut Stack<Frame>) -> Result<(), AllocError>
     ensures { OnOk result (frames.new ≡ marks.put tree frames.old) }
 {
     let Some(mut frame) = frames.pop() else {
@@ -63,7 +63,7 @@ fn put(tree: Mark, frames: &mut Pile<Frame>) -> Result<(), AllocError>
 pub fn close(
     spare: &mut Spare<Mark>,
     kind: Kind,
-    frames: &mut Pile<Frame>,
+    frames: &mut Stack<Frame>,
 ) -> Result<(), AllocError>
     ensures { OnOk result (capped frames.new ≡ capped (marks.close kind frames.old)) }
 {
@@ -76,7 +76,7 @@ pub fn close(
 }
 
 /// A tree begins at the token with this number, whose first kid is the last of the tree round it.
-fn over(spare: &mut Spare<Mark>, number: usize, frames: &mut Pile<Frame>) -> Result<(), AllocError>
+fn over(spare: &mut Spare<Mark>, number: usize, frames: &mut Stack<Frame>) -> Result<(), AllocError>
     ensures { OnOk result (frames.new ≡ marks.over number frames.old) }
 {
     let Some(mut frame) = frames.pop() else {
@@ -91,7 +91,7 @@ fn over(spare: &mut Spare<Mark>, number: usize, frames: &mut Pile<Frame>) -> Res
 }
 
 /// The kids of the innermost tree under way are those of the tree round it.
-fn lift(spare: &mut Spare<Mark>, frames: &mut Pile<Frame>) -> Result<(), AllocError>
+fn lift(spare: &mut Spare<Mark>, frames: &mut Stack<Frame>) -> Result<(), AllocError>
     ensures { OnOk result (frames.new ≡ marks.lift frames.old) }
 {
     let Some(frame) = frames.pop() else {
@@ -107,7 +107,7 @@ fn lift(spare: &mut Spare<Mark>, frames: &mut Pile<Frame>) -> Result<(), AllocEr
 }
 
 /// The innermost tree under way is none.
-fn let_go(spare: &mut Spare<Mark>, frames: &mut Pile<Frame>) -> Result<(), AllocError>
+fn let_go(spare: &mut Spare<Mark>, frames: &mut Stack<Frame>) -> Result<(), AllocError>
     ensures { OnOk result (frames.new ≡ marks.let_go frames.old) }
 {
     match frames.pop() {

@@ -6,11 +6,11 @@ ghost use Rattle.hare_recogniser.specs.Least as least;
 
 use crate::frame::Frame;
 use crate::nodes::Nodes;
-use hare_ll_table::Pile;
+use hare_ll_table::Stack;
 
 /// The least token at which a limit is passed, as far as the innermost tree under way shows it.
 #[tactic(auto, using(crate::proofs::Told::Least::least_append))]
-pub fn found(nodes: &Nodes, frames: &Pile<Frame>) -> Option<usize>
+pub fn found(nodes: &Nodes, frames: &Stack<Frame>) -> Option<usize>
     ensures { result ≡ least.least (gauges.found nodes.now frames.now) }
 {
     match frames.top() {

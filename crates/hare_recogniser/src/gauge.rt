@@ -8,7 +8,7 @@ ghost use Rattle.hare_ll_table.specs.Seen.{waited};
 use crate::agenda::Agenda;
 use crate::frame::Frame;
 use crate::run::{Halted, Stop, run};
-use hare_ll_table::{Pile, Wait};
+use hare_ll_table::{Stack, Wait};
 use hare_tree::Tokens;
 use std::alloc::{AllocError, Global};
 
@@ -48,10 +48,10 @@ pub fn gauge(
 }
 
 /// Nothing is under way.
-fn start(alloc: Global) -> Result<Pile<Frame>, AllocError>
+fn start(alloc: Global) -> Result<Stack<Frame>, AllocError>
     ensures { IfOk result (λ frames. frames ≡ gauges.start) }
 {
-    let mut frames = Pile::new(alloc);
+    let mut frames = Stack::new(alloc);
     frames.push(Frame::begun(1, Vec::new(alloc)))?;
     Ok(frames)
 }

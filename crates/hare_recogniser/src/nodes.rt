@@ -67,7 +67,7 @@ fn nodes_of_wait(wait: Wait) -> &'static [bool]
     }
 }
 
-/// A pile of trees under way, which knows of each whether it is a node, and how many are. Contracts see the list, with its top first.
+/// A stack of trees under way, which knows of each whether it is a node, and how many are. Contracts see the list, with its top first.
 #[derive(Drop)]
 pub struct Nodes {
     items: Vec<bool>,

@@ -12,7 +12,7 @@ use crate::found::{found, lesser};
 use crate::frame::Frame;
 use crate::step::step;
 use crate::width::place_behind_joined;
-use hare_ll_table::{Answer, Pile, RowBuffer, Spare, class_of, place_behind};
+use hare_ll_table::{Answer, RowBuffer, Spare, Stack, class_of, place_behind};
 use hare_tree::Tokens;
 use std::alloc::{AllocError, Global};
 
@@ -40,7 +40,7 @@ pub fn run(
     tokens: &Tokens,
     from: usize,
     agenda: &mut Agenda,
-    frames: &mut Pile<Frame>,
+    frames: &mut Stack<Frame>,
 ) -> Result<Halted, AllocError>
     requires { IsPaired agenda.old }
     ensures told { IfOk result (λ r. r.told ≡ least

@@ -11,7 +11,7 @@ use crate::agenda::Agenda;
 use crate::change::{all_changed, close};
 use crate::frame::{Frame, Mark};
 use hare_automaton::{Class, Symbol};
-use hare_ll_table::{Answer, Pile, Row, RowBuffer, Spare, has_sign, row_at};
+use hare_ll_table::{Answer, Row, RowBuffer, Spare, Stack, has_sign, row_at};
 use std::alloc::AllocError;
 
 /// Reads the token with this number, of which the class is given: the trees under way that are whole in front of it are closed, and it is
@@ -23,7 +23,7 @@ pub fn step(
     class: Class,
     buffer: &mut RowBuffer,
     agenda: &mut Agenda,
-    frames: &mut Pile<Frame>,
+    frames: &mut Stack<Frame>,
 ) -> Result<Answer, AllocError>
     requires room { has_room class }
     requires paired { IsPaired agenda.old }

@@ -7,8 +7,8 @@ mod commands;
 #[cfg(test)]
 mod files;
 #[cfg(test)]
-mod piles;
-#[cfg(test)]
 mod runs;
+#[cfg(test)]
+mod stacks;
 #[cfg(test)]
 mod trees;

@@ -1,4 +1,4 @@
--- What is waited for as the top of the pile is taken or changed.
+-- What is waited for as the top of the stack is taken or changed.
 use Rattle.std.proofs.Common.{◌≡◌, ℕ, List, [], ◌∷◌, ◌++◌, sym, ap, ◌∙◌}
 use Rattle.hare_tree.specs.declared.kind.Kind.{Kind}
 use Rattle.hare_automaton.specs.declared.rule.Symbol.{Symbol}

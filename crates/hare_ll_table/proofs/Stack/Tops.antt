@@ -1,4 +1,4 @@
--- The last item of a list, which is the top of a pile.
+-- The last item of a list, which is the top of a stack.
 use Rattle.std.proofs.Common.{◌≡◌, suc, ◌-◌, List, [], ◌∷◌, ◌++◌, length, reverse, refl, sym, ap, ◌∙◌, arith}
 use Rattle.std.proofs.lemmas.List.{reverse-append, length-append}
 use Rattle.std.proofs.Math.ListN.{set}
@@ -40,7 +40,7 @@ replaced_as : {A : Type 0} (xs front : List A) (z x top : A) (rest : List A) →
     reverse (set xs (length xs - 1) x) ≡ x ∷ rest
 replaced_as xs front z x top rest k e = rw k (replaced_behind front z x top rest (ap reverse (sym k) ∙ e))
 
--- a pile of which the top is another
+-- a stack of which the top is another
 pub replaced_top : {A : Type 0} (xs : List A) (x top : A) (rest : List A) → reverse xs ≡ top ∷ rest →
     reverse (set xs (length xs - 1) x) ≡ x ∷ rest
 replaced_top [] x top rest e = absurd (cc)

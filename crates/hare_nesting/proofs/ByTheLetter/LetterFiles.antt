@@ -19,7 +19,7 @@ use Rattle.hare_automaton.specs.Engine.{begun}
 use Rattle.hare_automaton.proofs.Spelled.Paths.{split}
 use Rattle.hare_automaton.proofs.Spelled.Lists.{shape}
 use Rattle.hare_nesting.specs.Marks.{lies_before}
-use Rattle.hare_nesting.proofs.UnderWay.Piles.{mark, left_faults, faults_of, first_faults, kid_faults, pile_faults, Gains}
+use Rattle.hare_nesting.proofs.UnderWay.Stacks.{mark, left_faults, faults_of, first_faults, kid_faults, stack_faults, Gains}
 use Rattle.hare_nesting.proofs.Telling.Claims.{Rises}
 use Rattle.hare_nesting.proofs.ByTheLetter.Begins.{side_within}
 use Rattle.hare_nesting.proofs.ByTheLetter.FormKids.{all_have_forms}
@@ -43,11 +43,11 @@ FileFaultsAgree =
     (f : ℕ) (ts : List Token) (uses decls : List Node) → Rises ts → Placed f ts uses decls →
     Gains (map (λ k. (place_of ts k).line) (deep_file uses decls)) (first_faults 1 0 false (nodes_of (uses ++ decls))) []
 
--- as the pile of a whole file has them
-abbrev pub FilePilesAgree : Type 0
-FilePilesAgree =
+-- as the stack of a whole file has them
+abbrev pub FileStacksAgree : Type 0
+FileStacksAgree =
     (f : ℕ) (ts : List Token) (uses decls : List Node) → Rises ts → Placed f ts uses decls →
-    Gains (map (λ k. (place_of ts k).line) (deep_file uses decls)) (pile_faults [] (begun (start_of 0) (uses ++ decls) ∷ [])) []
+    Gains (map (λ k. (place_of ts k).line) (deep_file uses decls)) (stack_faults [] (begun (start_of 0) (uses ++ decls) ∷ [])) []
 
 -- ---- trees side by side
 
@@ -98,7 +98,7 @@ file_faults_agree f ts uses decls r p =
     (side_by_side f ts so.Decl n decls r p.decls_shaped (omega (arith, l, a)) p.decls_placed x)
     ∙ sym (ap (on x) (first_of_all (uses ++ decls)) ∙ on_both 0 x uses decls))
 
--- ---- the pile of a whole file
+-- ---- the stack of a whole file
 
 no_node : (s : Sort) (t : Node) → is_shaped s t ≡ true → ((k : Kind) (x : List ℕ) → admits s k x ≡ true → is_node k ≡ false) →
     (mark t).node ≡ false
@@ -118,8 +118,8 @@ no_left [] [] e f = refl
 no_left [] (t ∷ ts) e f = rw (no_node so.Decl t (split (is_shaped so.Decl t) (list_all (is_shaped so.Decl) ts) f).0 decl_is_no_node) refl
 no_left (t ∷ ts) decls e f = rw (no_node so.Use t (split (is_shaped so.Use t) (list_all (is_shaped so.Use) ts) e).0 use_is_no_node) refl
 
-pub file_piles_agree : FilePilesAgree
-unfolding pile_faults
-file_piles_agree f ts uses decls r p =
+pub file_stacks_agree : FileStacksAgree
+unfolding stack_faults
+file_stacks_agree f ts uses decls r p =
     subst (λ z. Gains (map (line ts) (deep_file uses decls)) (z ++ first_faults 1 0 false (nodes_of (uses ++ decls))) [])
     (sym (no_left uses decls p.uses_shaped p.decls_shaped)) (file_faults_agree f ts uses decls r p)

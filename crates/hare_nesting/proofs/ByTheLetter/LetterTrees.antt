@@ -14,7 +14,7 @@ use Rattle.hare_tree.specs.Depth.{is_node, is_operator, counted, height, greates
 use Rattle.hare_tree.specs.Grammar.{place_of}
 use Rattle.hare_automaton.proofs.Machine.Edges.{lt_false, le_true}
 use Rattle.hare_nesting.specs.Marks.{lies_before, first_in, highest}
-use Rattle.hare_nesting.proofs.UnderWay.Piles.{mark, marks, left_faults, around, faults_of, first_faults, kid_faults}
+use Rattle.hare_nesting.proofs.UnderWay.Stacks.{mark, marks, left_faults, around, faults_of, first_faults, kid_faults}
 use Rattle.hare_nesting.proofs.Telling.Claims.{Rises}
 use Rattle.hare_nesting.proofs.ByTheLetter.FormKids.{node_some, pieces_some, Operand}
 use Rattle.hare_nesting.proofs.ByTheLetter.OnList.{on, on_append, on_map, same_or}

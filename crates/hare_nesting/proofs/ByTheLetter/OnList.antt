@@ -5,7 +5,7 @@ use Rattle.std.proofs.lemmas.List.{map-append}
 use Rattle.std.proofs.lemmas.Bool.{eq-eqb}
 use Rattle.std.proofs.lemmas.Bool.Decides.{nat_tests}
 use Rattle.hare_tree.specs.Grammar.{IsOn}
-use Rattle.hare_nesting.proofs.UnderWay.Piles.{Gains}
+use Rattle.hare_nesting.proofs.UnderWay.Stacks.{Gains}
 
 abbrev pub on : ℕ → List ℕ → Bool
 on x [] = false

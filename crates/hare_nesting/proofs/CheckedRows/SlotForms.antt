@@ -12,7 +12,7 @@ use Rattle.hare_automaton.specs.Rows.{Row, Fault, Skips, Uses, before, led_by, o
 use Rattle.hare_automaton.proofs.Spelled.Paths.{split}
 use Rattle.hare_prefixes.proofs.Outcomes.Breaks.{both}
 use Rattle.hare_nesting.specs.Gauge.{nodes_of_symbol, nodes_in}
-use Rattle.hare_nesting.proofs.UnderWay.Piles.{may_follow, follows}
+use Rattle.hare_nesting.proofs.UnderWay.Stacks.{may_follow, follows}
 use Rattle.hare_nesting.proofs.CheckedRows.Slots.{undone, all_undone, is_quiet, is_loud, is_still, tame, is_put, ends_in, is_plain, is_plain_first, is_twice, is_begun, is_begun_behind, is_named, made_for, hands_on, prepared, same_bools, uses_ok, row_ok, ends_stack, ends_row}
 
 -- ---- equal lists

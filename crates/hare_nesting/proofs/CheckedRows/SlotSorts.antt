@@ -14,7 +14,7 @@ use Rattle.hare_automaton.specs.TypeRows.{bare_row, type_row, member_row, length
 use Rattle.hare_automaton.specs.ExpressionRows.{start_row, start_level, level_row}
 use Rattle.hare_automaton.specs.DeclarationRows.{of_row, decl_word_row}
 use Rattle.hare_nesting.specs.Gauge.{nodes_in}
-use Rattle.hare_nesting.proofs.UnderWay.Piles.{follows}
+use Rattle.hare_nesting.proofs.UnderWay.Stacks.{follows}
 use Rattle.hare_nesting.proofs.CheckedRows.Slots.{uses_ok, ends_row}
 use Rattle.hare_nesting.proofs.CheckedRows.SlotForms.{uses_behind, uses_led, uses_climb}
 

@@ -10,7 +10,7 @@ use Rattle.hare_automaton.specs.declared.rule.Change.{Change}
 use Rattle.hare_automaton.specs.declared.rule.Change.TheVariants as ch
 use Rattle.hare_automaton.specs.Rows.{Row, Fault, Skips, Uses}
 use Rattle.hare_nesting.specs.Gauge.{nodes_in}
-use Rattle.hare_nesting.proofs.UnderWay.Piles.{ends_operand, follows}
+use Rattle.hare_nesting.proofs.UnderWay.Stacks.{ends_operand, follows}
 
 -- ---- which trees under way are nodes, in front of changes and behind them
 

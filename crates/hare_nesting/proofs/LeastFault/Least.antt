@@ -7,7 +7,7 @@ use Rattle.hare_tree.specs.Grammar.{Language, IsOn, IsDepthFault, GoesOn, joined
 use Rattle.hare_automaton.specs.declared.rule.Symbol.{Symbol}
 use Rattle.hare_automaton.specs.Engine.{Group, bottom}
 use Rattle.hare_nesting.specs.Gauge.{numbered, seen, start, gauge}
-use Rattle.hare_nesting.proofs.UnderWay.Piles.{pile_faults}
+use Rattle.hare_nesting.proofs.UnderWay.Stacks.{stack_faults}
 use Rattle.hare_nesting.proofs.Telling.Claims.{StepsGain, StepsEnd}
 use Rattle.hare_nesting.proofs.UnderWay.Lists.{on_left, map_on}
 use Rattle.hare_nesting.proofs.Telling.Reaches.{Reaches, gauge_reaches}
@@ -95,9 +95,9 @@ told_whole sg se l st s ts u xs k tree o =
     let x = r.faulty.faults.kept (line_of all k) (map_on (line_of all) k (l.deep_of tree) o.passes) in
     let h = front_then r.used u (joined (numbered 1 ts)) (front_long u r.used (r.last ∷ []) o.shared (omega (arith, o.over))) o.front in
     told_on st w.next r.used ts w.trees w.told (line_of u k) w.reaches h
-    (by w (subst (λ y. IsOn y (pile_faults [] r.made)) (front_line u all o.shared k o.within) x))
+    (by w (subst (λ y. IsOn y (stack_faults [] r.made)) (front_line u all o.shared k o.within) x))
   where
-    by : (w : Whole st o.again.used o.again.made) → IsOn (line_of u k) (pile_faults [] o.again.made) → IsOn (line_of u k) w.told
+    by : (w : Whole st o.again.used o.again.made) → IsOn (line_of u k) (stack_faults [] o.again.made) → IsOn (line_of u k) w.told
     by w x = or (w.gains.only (line_of u k) x)
       where
         or : IsOn (line_of u k) [] ⊎ IsOn (line_of u k) w.told → IsOn (line_of u k) w.told

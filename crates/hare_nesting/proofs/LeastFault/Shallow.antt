@@ -23,7 +23,7 @@ use Rattle.hare_prefixes.proofs.Outcomes.Breaks.{both, trees_sort}
 use Rattle.hare_prefixes.proofs.Soundness.Readings.{runs_read_trees, runs_read_files}
 use Rattle.hare_nesting.specs.Gauge.{numbered, seen, seen_in, start, gauge}
 use Rattle.hare_nesting.specs.Depth.{gauged, gauged_file, GaugedTreesFit, GaugedFilesFit}
-use Rattle.hare_nesting.proofs.UnderWay.Piles.{pile_faults, Gains}
+use Rattle.hare_nesting.proofs.UnderWay.Stacks.{stack_faults, Gains}
 use Rattle.hare_nesting.proofs.Telling.Claims.{StepsGain, StepsEnd}
 use Rattle.hare_nesting.proofs.Telling.Reaches.{run_reaches}
 use Rattle.hare_nesting.proofs.Telling.Halts.{stops_done}
@@ -87,7 +87,7 @@ same_run file st ts used t rest made d i =
 
 -- where nothing is told, nothing is passed in what is made
 none_made : {T : Type 0} → StepsGain → StepsEnd → (l : Language T) (st : List Symbol) → Reads l st →
-    (ts used : List Token) (r : SameRun st ts used) → (gauge (seen ts) st start).faults ≡ [] → (x : ℕ) → IsOn x (pile_faults [] r.made) → ⊥
+    (ts used : List Token) (r : SameRun st ts used) → (gauge (seen ts) st start).faults ≡ [] → (x : ℕ) → IsOn x (stack_faults [] r.made) → ⊥
 none_made sg se l st s ts used r n x i =
     let w = whole sg se st s.held s.none r.front r.last r.top r.made r.ascends r.done in
     by w.told (w.gains.only x i) (λ j. told_on st w.next r.front ts w.trees w.told x w.reaches r.is_front j)
@@ -114,7 +114,7 @@ read_shallow : StepsGain → StepsEnd → (s : Sort) → has_trees s ≡ true �
 read_shallow sg se s c ts used q tree h e n =
     let m = made_tree s c q.front q.last q.top q.made q.ascends q.done in
     sym (roots_pass_alike m.tree tree (sorts_have_one_tree 0 s (trees_sort s c) m.tree tree m.shaped h (m.spelled ∙ q.same ∙ sym e)))
-    ∙ no_faults _ (deep_root m.tree) (pile_faults [] q.made) m.faulty.faults
+    ∙ no_faults _ (deep_root m.tree) (stack_faults [] q.made) m.faulty.faults
     (none_made sg se (trees_of s) (of s ∷ []) (reads_trees s c) ts used q n)
 
 tree_fits : StepsGain → StepsEnd → (s : Sort) → has_trees s ≡ true →
@@ -154,7 +154,7 @@ read_file_shallow : StepsGain → StepsEnd → (ts used : List Token) → SameRu
 read_file_shallow sg se ts used q uses decls h e n =
     let m = made_file q.front q.last q.top q.made q.ascends q.done in
     sym (made_passes q.front q.last q.made m (file_of 0 uses decls) h (q.same ∙ sym e))
-    ∙ no_faults _ (deep_file m.uses m.decls) (pile_faults [] q.made) m.faulty.faults
+    ∙ no_faults _ (deep_file m.uses m.decls) (stack_faults [] q.made) m.faulty.faults
     (none_made sg se files file_symbols reads_files ts used q n)
 
 file_fits : StepsGain → StepsEnd → (file : ℕ) (ts : List Token) (t : Token) (rest : List Token) (uses decls : List Node) →

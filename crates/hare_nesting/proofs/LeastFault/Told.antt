@@ -7,7 +7,7 @@ use Rattle.hare_tree.specs.Grammar.{Language, IsOn, IsDepthFault, GoesOn, joined
 use Rattle.hare_automaton.specs.declared.rule.Symbol.{Symbol}
 use Rattle.hare_automaton.specs.Engine.{Group, bottom}
 use Rattle.hare_nesting.specs.Gauge.{numbered, seen, start, gauge}
-use Rattle.hare_nesting.proofs.UnderWay.Piles.{pile_faults}
+use Rattle.hare_nesting.proofs.UnderWay.Stacks.{stack_faults}
 use Rattle.hare_nesting.proofs.Telling.Claims.{StepsGain, StepsEnd}
 use Rattle.hare_nesting.proofs.UnderWay.Lists.{on_map, gains_back}
 use Rattle.hare_nesting.proofs.Telling.Reaches.{Reaches}
@@ -48,7 +48,7 @@ told_again sg se l st s u next trees told k r e i ts tree q f = by (cases_lt (le
     by (inr m) =
         let x = told_in_front st next w.next u q.used trees w.trees told w.told r w.reaches (front_short u q.used (q.last ∷ []) f m)
         (line_of u k) i in
-        let y = (gains_back _ (pile_faults [] q.made) q.faulty.faults).kept (line_of u k) (w.gains.gained (line_of u k) x) in
+        let y = (gains_back _ (stack_faults [] q.made) q.faulty.faults).kept (line_of u k) (w.gains.gained (line_of u k) x) in
         let j = on_map (line_of (q.used ++ q.last ∷ [])) (line_of u k) (l.deep_of tree) y in
         same j.0 j.1 j.2 m
 

@@ -21,9 +21,9 @@ use Rattle.hare_prefixes.proofs.Soundness.Readings.{runs_read_files}
 use Rattle.hare_prefixes.proofs.Outcomes.Moved.{side_moved}
 use Rattle.hare_prefixes.proofs.FirstFault.Faults.{file_loose}
 use Rattle.hare_nesting.specs.Gauge.{numbered, nodes_in}
-use Rattle.hare_nesting.proofs.UnderWay.Piles.{pile_faults, Gains}
+use Rattle.hare_nesting.proofs.UnderWay.Stacks.{stack_faults, Gains}
 use Rattle.hare_nesting.proofs.UnderWay.AtStart.{files_at_start, none_at_start}
-use Rattle.hare_nesting.proofs.ByTheLetter.LetterFiles.{Placed, deep_file, file_piles_agree}
+use Rattle.hare_nesting.proofs.ByTheLetter.LetterFiles.{Placed, deep_file, file_stacks_agree}
 use Rattle.hare_nesting.proofs.ByTheLetter.Placeless.{files_pass_alike, file_limits}
 use Rattle.hare_nesting.proofs.ByTheLetter.InsideFiles.{file_inside}
 use Rattle.hare_nesting.proofs.Telling.Gaining.{Ascends}
@@ -62,8 +62,8 @@ made_file u z top made a d =
           r.uses_placed;
       decls_placed = r.decls_placed;
     } in
-    let g = subst (λ hs. Gains (map (line_of w) (deep_file r.uses r.decls)) (pile_faults [] hs) []) (sym r.is_made)
-    (file_piles_agree 0 w r.uses r.decls (rises w top a) p) in
+    let g = subst (λ hs. Gains (map (line_of w) (deep_file r.uses r.decls)) (stack_faults [] hs) []) (sym r.is_made)
+    (file_stacks_agree 0 w r.uses r.decls (rises w top a) p) in
     record {
       uses = r.uses;
       decls = r.decls;
@@ -150,7 +150,7 @@ reread_file ts t h e =
     let w : map unplaced (joined (numbered 1 ts)) ≡ map unplaced (spell_file t) = unplaced_both 1 ts ∙ sym e in
     reread_from ts t h w (ended (joined (numbered 1 ts)) (spell_all 0 t.uses ++ spell_all 0 t.decls) (w ∙ file_tokens t))
 
-file_none : pile_faults (nodes_in file_symbols) bottom ≡ []
+file_none : stack_faults (nodes_in file_symbols) bottom ≡ []
 unfolding nodes_in
 file_none = none_at_start
 

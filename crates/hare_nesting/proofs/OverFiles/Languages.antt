@@ -10,20 +10,20 @@ use Rattle.hare_prefixes.proofs.Completion.Endings.{good}
 use Rattle.hare_prefixes.proofs.Completion.Viable.{end}
 use Rattle.hare_prefixes.proofs.Joining.Loose.{loose}
 use Rattle.hare_nesting.specs.Gauge.{numbered, nodes_in}
-use Rattle.hare_nesting.proofs.UnderWay.Piles.{frames, pile_faults, Gains, Held}
+use Rattle.hare_nesting.proofs.UnderWay.Stacks.{frames, stack_faults, Gains, Held}
 use Rattle.hare_nesting.proofs.Telling.Gaining.{Ascends}
 use Rattle.hare_nesting.proofs.OverFiles.Lines.{line_of}
 
 -- The tree passes limits at these tokens where what is made does, and at none behind them; behind them stands the token `z`.
 pub record Faulty {T : Type 0} (l : Language T) (u : List Token) (z : Token) (tree : T) (made : List Group) : Type 0 where
-  pub faults : Gains (map (line_of (u ++ z ∷ [])) (l.deep_of tree)) (pile_faults [] made) []
+  pub faults : Gains (map (line_of (u ++ z ∷ [])) (l.deep_of tree)) (stack_faults [] made) []
   pub within : (k : ℕ) → IsOn k (l.deep_of tree) → k < length u
 
 -- another tree that passes limits at the same tokens
 pub faulty_alike : {T : Type 0} (l : Language T) (u : List Token) (z : Token) (t t' : T) (made : List Group) → l.deep_of t ≡ l.deep_of t' →
     Faulty l u z t made → Faulty l u z t' made
 faulty_alike l u z t t' made e f = record {
-  faults = subst (λ ks. Gains (map (line_of (u ++ z ∷ [])) ks) (pile_faults [] made) []) e
+  faults = subst (λ ks. Gains (map (line_of (u ++ z ∷ [])) ks) (stack_faults [] made) []) e
       f.faults;
   within = λ k x. f.within k (subst (IsOn k) (sym e) x);
 }
@@ -54,7 +54,7 @@ pub record Reread {T : Type 0} (l : Language T) (st : List Symbol) (ts : List To
 -- tree no strings stand side by side.
 pub record Reads {T : Type 0} (l : Language T) (st : List Symbol) : Type 0 where
   pub held : Held 1 st (frames bottom)
-  pub none : pile_faults (nodes_in st) bottom ≡ []
+  pub none : stack_faults (nodes_in st) bottom ≡ []
   pub is_good : good st cl.Junk ≡ true
   pub is_loose : (tree : T) → l.is_of tree ≡ true → loose false (l.tokens_of tree) ≡ true
   pub reads : (u : List Token) (z : Token) (top : ℕ) (made : List Group) → Ascends 1 (u ++ z ∷ []) top → unplaced z ≡ end →

@@ -19,7 +19,7 @@ use Rattle.hare_prefixes.proofs.Soundness.Readings.{runs_read_trees}
 use Rattle.hare_prefixes.proofs.Outcomes.Moved.{spell_moved}
 use Rattle.hare_prefixes.proofs.FirstFault.Faults.{tree_loose}
 use Rattle.hare_nesting.specs.Gauge.{numbered, nodes_in}
-use Rattle.hare_nesting.proofs.UnderWay.Piles.{mark, faults_of, pile_faults, Gains}
+use Rattle.hare_nesting.proofs.UnderWay.Stacks.{mark, faults_of, stack_faults, Gains}
 use Rattle.hare_nesting.proofs.UnderWay.AtStart.{sort_at_start, none_at_start, plain_alone, tree_alone}
 use Rattle.hare_nesting.proofs.ByTheLetter.FormKids.{shaped_has_form, node_some}
 use Rattle.hare_nesting.proofs.ByTheLetter.Letter.{faults_agree, agrees}
@@ -31,12 +31,12 @@ use Rattle.hare_nesting.proofs.OverFiles.Lines.{line_of, rises}
 use Rattle.hare_nesting.proofs.Telling.Runs.{done_like}
 use Rattle.hare_nesting.proofs.OverFiles.Languages.{faulty_alike, Faulty, Read, Reread, Reads}
 
--- ---- the pile of one tree
+-- ---- the stack of one tree
 
-pile_of_tree : (t : Node) → ((mark t).node ≡ true → 0 < (mark t).first) → pile_faults [] (add t bottom) ≡ faults_of 0 t
-pile_of_tree t f = by (mark t).node refl
+stack_of_tree : (t : Node) → ((mark t).node ≡ true → 0 < (mark t).first) → stack_faults [] (add t bottom) ≡ faults_of 0 t
+stack_of_tree t f = by (mark t).node refl
   where
-    by : (b : Bool) → (mark t).node ≡ b → pile_faults [] (add t bottom) ≡ faults_of 0 t
+    by : (b : Bool) → (mark t).node ≡ b → stack_faults [] (add t bottom) ≡ faults_of 0 t
     by true e = let p = f e in tree_alone t (omega (arith, p))
     by false e = plain_alone t e
 
@@ -66,7 +66,7 @@ made_tree s c u z top made a d =
     let first : (mark r.tree).node ≡ true → 0 < (mark r.tree).first =
     λ b. (let q = sym (node_mark r.tree) ∙ b in let x = node_some r.tree q in let y = rise.0 0 (omega (arith, x, within)) in subst
     (λ k. 0 < k) (sym (g.first q)) y) in
-    let p : pile_faults [] made ≡ faults_of 0 r.tree = ap (pile_faults []) r.is_made ∙ pile_of_tree r.tree first in
+    let p : stack_faults [] made ≡ faults_of 0 r.tree = ap (stack_faults []) r.is_made ∙ stack_of_tree r.tree first in
     record {
       tree = r.tree;
       shaped = r.shaped;
@@ -124,7 +124,7 @@ reread_tree s c ts t h e =
       faulty = faulty_alike (trees_of s) u z m.tree t d.0 p m.faulty;
     }
 
-sort_none : (s : Sort) → pile_faults (nodes_in (of s ∷ [])) bottom ≡ []
+sort_none : (s : Sort) → stack_faults (nodes_in (of s ∷ [])) bottom ≡ []
 unfolding nodes_in
 sort_none s = none_at_start
 

@@ -24,7 +24,7 @@ use Rattle.hare_prefixes.proofs.Outcomes.Breaks.{both}
 use Rattle.hare_nesting.specs.Marks.{Frame}
 use Rattle.hare_nesting.specs.Marks as seen
 use Rattle.hare_nesting.specs.Gauge.{nodes_in, found}
-use Rattle.hare_nesting.proofs.UnderWay.Piles.{frame_of, frames, pile_faults, Gains, ends_in_operand, ready, follows, Held}
+use Rattle.hare_nesting.proofs.UnderWay.Stacks.{frame_of, frames, stack_faults, Gains, ends_in_operand, ready, follows, Held}
 use Rattle.hare_nesting.proofs.Telling.Claims.{calm_step, Stepped}
 use Rattle.hare_nesting.proofs.CheckedRows.Slots.{is_still, prepared, same_bools, ends_stack}
 use Rattle.hare_nesting.proofs.UnderWay.Lists.{gains_refl}
@@ -134,7 +134,7 @@ climb_skipped f t c l h cs st gs i e = by cs (subst (λ y. climb_ok y ≡ true) 
             e.following;
         readied = ready_next (part (ru.Climb l h)) st (frames gs) refl e.following (λ j. on_top gs e);
       };
-      gains = gains_refl (pile_faults (nodes_in st) gs);
+      gains = gains_refl (stack_faults (nodes_in st) gs);
     }
 
 not_calm : (l h : ℕ) (c : Class) (cs : List Change) (ss st : List Symbol) → row (ru.Climb l h) c ≡ Uses cs ss →
@@ -162,7 +162,7 @@ operator_stepped f t c l h cs ss st (g ∷ hs) o b e =
     let nodes : nodes_in (ss ++ st) ≡ true ∷ bs = nodes_append ss st ∙ ap (λ l. l ++ bs) (same_equal (nodes_in ss) (true ∷ []) q.1) in
     let z : Stands n (suc n) (true ∷ bs) (frames all) =
     rw (y.1, frames_over t.place (g ∷ hs)) (over_stands n bs (frame_of g) (frames hs) e.readied (held_stands n (s ∷ st) (g ∷ hs) e)) in
-    let told : Gains (pile_faults bs (g ∷ hs)) (pile_faults (true ∷ bs) all) (found (true ∷ bs) (frames all)) =
+    let told : Gains (stack_faults bs (g ∷ hs)) (stack_faults (true ∷ bs) all) (found (true ∷ bs) (frames all)) =
     rw (y.0, y.1) (over_gains bs t.place g hs e.fitting e.readied e.below) in
     told_stepped n c (s ∷ st) (ss ++ st) (g ∷ hs) all (rw nodes told) (rw nodes z) (follows_next s [] ss st refl e.following r.0 (λ j. u.1))
     (readied ss q.1 u.0 (frames all)) b

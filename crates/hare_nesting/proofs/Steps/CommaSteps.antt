@@ -16,7 +16,7 @@ use Rattle.hare_automaton.specs.Table.{row}
 use Rattle.hare_automaton.specs.Engine.{Group, with_kids, head_in, close, lift, all_changed}
 use Rattle.hare_automaton.proofs.Spelled.Paths.{split}
 use Rattle.hare_nesting.specs.Gauge.{nodes_in}
-use Rattle.hare_nesting.proofs.UnderWay.Piles.{mark, frame_of, frames, pile_faults, is_empty, idle, follows, Held}
+use Rattle.hare_nesting.proofs.UnderWay.Stacks.{mark, frame_of, frames, stack_faults, is_empty, idle, follows, Held}
 use Rattle.hare_nesting.proofs.Telling.Claims.{Stepped}
 use Rattle.hare_nesting.proofs.UnderWay.Lists.{gains_then}
 use Rattle.hare_nesting.proofs.UnderWay.Seen.{frames_close}
@@ -94,7 +94,7 @@ element_stepped f t c cs ss st (g ∷ h ∷ k ∷ ks) o e =
     let a = drop_gains (false ∷ bs) g h (k ∷ ks) e.fitting (empty_idle (map mark g.kids) r.0) in
     let b = drop_gains bs h k ks y.fitting r.1 in
     used_stepped f t c s [] cs ss st (g ∷ h ∷ k ∷ ks) (k ∷ ks) refl e.following o (λ j. cc)
-    (gains_then (pile_faults (false ∷ false ∷ bs) (g ∷ h ∷ k ∷ ks)) (pile_faults (false ∷ bs) (h ∷ k ∷ ks)) (pile_faults bs (k ∷ ks)) []
+    (gains_then (stack_faults (false ∷ false ∷ bs) (g ∷ h ∷ k ∷ ks)) (stack_faults (false ∷ bs) (h ∷ k ∷ ks)) (stack_faults bs (k ∷ ks)) []
     a b) (stands_next n bs (frames (k ∷ ks)) z)
 
 pub element_comma_stepped : (f : ℕ) (t : Token) (c : Class) (cs : List Change) (ss st : List Symbol) (gs : List Group) →
@@ -141,8 +141,8 @@ last_comma n st (g ∷ h ∷ k ∷ ks) e =
         readied =
             ready_next s st (frames (lift (both ∷ k ∷ ks))) refl e.following (λ j. cc);
       };
-      gains = gains_then (pile_faults (false ∷ false ∷ bs) old) (pile_faults (false ∷ bs) (both ∷ k ∷ ks))
-          (pile_faults bs (lift (both ∷ k ∷ ks))) [] (closes ki.TrailingComma n n (false ∷ bs) old z) (lift_gains bs both k ks y.fitting i);
+      gains = gains_then (stack_faults (false ∷ false ∷ bs) old) (stack_faults (false ∷ bs) (both ∷ k ∷ ks))
+          (stack_faults bs (lift (both ∷ k ∷ ks))) [] (closes ki.TrailingComma n n (false ∷ bs) old z) (lift_gains bs both k ks y.fitting i);
     }
   where
     bare : (ts : List Node) → is_empty (map mark ts) ≡ true →

@@ -7,7 +7,7 @@ use Rattle.hare_automaton.specs.declared.rule.Symbol.TheVariants as sy
 use Rattle.hare_automaton.specs.declared.rule.Change.{Change}
 use Rattle.hare_automaton.proofs.Spelled.Paths.{split}
 use Rattle.hare_nesting.specs.Marks.{Frame}
-use Rattle.hare_nesting.proofs.UnderWay.Piles.{ready_frames, ready, ends_operand, may_follow, follows}
+use Rattle.hare_nesting.proofs.UnderWay.Stacks.{ready_frames, ready, ends_operand, may_follow, follows}
 use Rattle.hare_nesting.proofs.CheckedRows.Slots.{is_plain, hands_on, ends_stack}
 use Rattle.hare_nesting.proofs.CheckedRows.SlotForms.{plain_hands, joins, joins_plain, joins_climb, follows_append}
 use Rattle.hare_nesting.proofs.Steps.Ready.{operand_on_top, operand_ready, ready_first, ready_second}

@@ -17,7 +17,7 @@ use Rattle.hare_automaton.specs.Table.{row}
 use Rattle.hare_automaton.specs.Engine.{Group, all_changed}
 use Rattle.hare_automaton.proofs.Spelled.Paths.{split}
 use Rattle.hare_nesting.specs.Gauge.{nodes_in, found}
-use Rattle.hare_nesting.proofs.UnderWay.Piles.{frames, pile_faults, ready, may_follow, follows, Held}
+use Rattle.hare_nesting.proofs.UnderWay.Stacks.{frames, stack_faults, ready, may_follow, follows, Held}
 use Rattle.hare_nesting.proofs.Telling.Claims.{Stepped}
 use Rattle.hare_nesting.proofs.UnderWay.Lists.{gains_refl, gains_none}
 use Rattle.hare_nesting.proofs.CheckedRows.Slots.{is_still, hands_on}
@@ -43,8 +43,8 @@ text_stepped f t c s cs st gs p e h =
     let z : Stands n (suc n) (nodes_in st) (frames hs) =
     rw y.1 (subst (λ l. Stands n (suc n) l (frames gs)) i (stands_next n (nodes_in (s ∷ st)) (frames gs) (held_stands n (s ∷ st) gs h)))
     in
-    let same : pile_faults (nodes_in (s ∷ st)) gs ≡ pile_faults (nodes_in st) hs = ap (λ l. pile_faults l gs) i ∙ sym y.0 in
-    grown_stepped n c (s ∷ st) st gs hs (grows_none n (pile_faults (nodes_in (s ∷ st)) gs) (pile_faults (nodes_in st) hs)
+    let same : stack_faults (nodes_in (s ∷ st)) gs ≡ stack_faults (nodes_in st) hs = ap (λ l. stack_faults l gs) i ∙ sym y.0 in
+    grown_stepped n c (s ∷ st) st gs hs (grows_none n (stack_faults (nodes_in (s ∷ st)) gs) (stack_faults (nodes_in st) hs)
     (found (nodes_in st) (frames hs)) (gains_none _ _ same)) z (follows_tail s st h.following)
     (rw y.1 (ready_handed s st (frames gs) p h.following h.readied))
 
@@ -95,8 +95,8 @@ unfolding nodes_in follows
 label_stepped f t c st gs h =
     let n = t.place.line in
     grown_stepped n c (part (ru.Own ow.Label) ∷ st) (part (ru.Own ow.Name) ∷ st) gs gs
-    (grows_none n (pile_faults (nodes_in st) gs) (pile_faults (nodes_in st) gs) (found (nodes_in st) (frames gs))
-    (gains_refl (pile_faults (nodes_in st) gs)))
+    (grows_none n (stack_faults (nodes_in st) gs) (stack_faults (nodes_in st) gs) (found (nodes_in st) (frames gs))
+    (gains_refl (stack_faults (nodes_in st) gs)))
     (stands_next n (nodes_in st) (frames gs) (held_stands n (part (ru.Own ow.Label) ∷ st) gs h)) (next st h.following)
     (kept st h.readied)
   where
@@ -133,7 +133,7 @@ own_skipped f t c o cs st gs i h =
         readied =
             ready_handed s st (frames gs) refl h.following h.readied;
       };
-      gains = gains_refl (pile_faults (nodes_in st) gs);
+      gains = gains_refl (stack_faults (nodes_in st) gs);
     }
 
 -- ---- names behind `::`

@@ -17,7 +17,7 @@ use Rattle.hare_automaton.specs.Rows.{Skips, Uses, of, part, rest_of}
 use Rattle.hare_automaton.specs.Table.{row}
 use Rattle.hare_automaton.specs.Engine.{Group, bare_leaf, with_kids, add, lift, all_changed}
 use Rattle.hare_nesting.specs.Gauge.{nodes_in, found}
-use Rattle.hare_nesting.proofs.UnderWay.Piles.{mark, frames, pile_faults, follows, Held}
+use Rattle.hare_nesting.proofs.UnderWay.Stacks.{mark, frames, stack_faults, follows, Held}
 use Rattle.hare_nesting.proofs.Telling.Claims.{calm_step, Stepped}
 use Rattle.hare_nesting.proofs.UnderWay.Lists.{gains_refl, gains_then}
 use Rattle.hare_nesting.proofs.UnderWay.Seen.{frames_add}
@@ -72,7 +72,7 @@ valued_stepped f t st (g ∷ hs) e =
     let a = absent_gains (false ∷ bs) f gs e.fitting in
     let b = turn_gains bs made hs (idle_put g.kids none_typed (empty_idle (map mark g.kids) e.readied) refl) y.fitting in
     told_stepped n (cl.Sign si.Equals) (s ∷ st) (valued ++ st) gs (made ∷ hs)
-    (gains_then (pile_faults (false ∷ bs) gs) (pile_faults (false ∷ bs) (made ∷ hs)) (pile_faults (true ∷ bs) (made ∷ hs))
+    (gains_then (stack_faults (false ∷ bs) gs) (stack_faults (false ∷ bs) (made ∷ hs)) (stack_faults (true ∷ bs) (made ∷ hs))
     (found (true ∷ bs) (frames (made ∷ hs))) a b) (turned n (suc n) bs (made ∷ hs) y)
     (follows_next s [] valued st refl e.following refl (λ j. refl)) refl (λ j. cc)
 
@@ -111,7 +111,7 @@ for_name_stepped f t c cs ss st gs i e = by (name_use c cs ss i)
         let n = t.place.line in
         let s = part ru.AfterForName in
         let bs = nodes_in (s ∷ st) in
-        used_stepped f t c s (false ∷ true ∷ []) cs ss st gs gs refl e.following o (λ j. ends) (gains_refl (pile_faults bs gs))
+        used_stepped f t c s (false ∷ true ∷ []) cs ss st gs gs refl e.following o (λ j. ends) (gains_refl (stack_faults bs gs))
         (stands_next n bs (frames gs) (held_stands n (s ∷ st) gs e))
 
 -- ---- imports
@@ -130,7 +130,7 @@ alias_stepped f t c st (g ∷ h ∷ hs) e =
     let gs = g ∷ h ∷ hs in
     let z = stands_next n (false ∷ bs) (frames gs) (held_stands n (s ∷ st) gs e) in
     grown_stepped n c (s ∷ st) (rest_of 3 ki.UseAlias ++ st) gs (lift gs)
-    (grows_none n (pile_faults (false ∷ bs) gs) (pile_faults bs (lift gs)) (found bs (frames (lift gs)))
+    (grows_none n (stack_faults (false ∷ bs) gs) (stack_faults bs (lift gs)) (found bs (frames (lift gs)))
     (lift_gains bs g h hs e.fitting e.readied)) (lift_stands n (suc n) bs g h hs e.readied z)
     (follows_next s [] (rest_of 3 ki.UseAlias) st refl e.following refl (λ j. cc)) refl
 
@@ -165,5 +165,5 @@ import_stepped f t c cs ss st gs i e = by (import_use c cs ss i)
         let n = t.place.line in
         let s = part ru.AfterUseName in
         let bs = nodes_in (s ∷ st) in
-        used_stepped f t c s (false ∷ false ∷ []) cs ss st gs gs refl e.following o (λ j. cc) (gains_refl (pile_faults bs gs))
+        used_stepped f t c s (false ∷ false ∷ []) cs ss st gs gs refl e.following o (λ j. cc) (gains_refl (stack_faults bs gs))
         (stands_next n bs (frames gs) (held_stands n (s ∷ st) gs e))

@@ -16,7 +16,7 @@ use Rattle.hare_automaton.proofs.Spelled.Paths.{split}
 use Rattle.hare_nesting.specs.Marks.{Frame, mark_as, put}
 use Rattle.hare_nesting.specs.Marks as seen
 use Rattle.hare_nesting.specs.Gauge.{nodes_in, found}
-use Rattle.hare_nesting.proofs.UnderWay.Piles.{mark, frame_of, frames, pile_faults, is_empty, is_ordered, all_below, follows, Held}
+use Rattle.hare_nesting.proofs.UnderWay.Stacks.{mark, frame_of, frames, stack_faults, is_empty, is_ordered, all_below, follows, Held}
 use Rattle.hare_nesting.proofs.Telling.Claims.{calm_step, Stepped}
 use Rattle.hare_nesting.proofs.UnderWay.Lists.{gains_none}
 use Rattle.hare_nesting.proofs.UnderWay.Seen.{frames_close, frames_lift, frames_join}
@@ -105,8 +105,8 @@ further_stepped f t c st gs e =
     let bs = nodes_in (s ∷ st) in
     let i = frames_join t gs in
     grown_stepped n c (s ∷ st) (part ru.PathName ∷ s ∷ st) gs (join_text t gs)
-    (grows_none n (pile_faults bs gs) (pile_faults bs (join_text t gs)) (found bs (frames (join_text t gs)))
-    (gains_none (pile_faults bs gs) (pile_faults bs (join_text t gs)) (sym (join_same t bs gs))))
+    (grows_none n (stack_faults bs gs) (stack_faults bs (join_text t gs)) (found bs (frames (join_text t gs)))
+    (gains_none (stack_faults bs gs) (stack_faults bs (join_text t gs)) (sym (join_same t bs gs))))
     (rw i (stands_next n bs (frames gs) (held_stands n (s ∷ st) gs e))) e.following (rw i e.readied)
 
 -- `{` makes the tree round the path a struct literal

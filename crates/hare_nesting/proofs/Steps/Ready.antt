@@ -13,7 +13,7 @@ use Rattle.hare_automaton.specs.declared.rule.Change.TheVariants as ch
 use Rattle.hare_automaton.proofs.Spelled.Paths.{split}
 use Rattle.hare_automaton.proofs.Machine.Edges.{true_le}
 use Rattle.hare_nesting.specs.Marks.{Frame, leaf_mark, put, close, changed, all_changed}
-use Rattle.hare_nesting.proofs.UnderWay.Piles.{is_ordered, ends_in_operand, ready_frames, ready}
+use Rattle.hare_nesting.proofs.UnderWay.Stacks.{is_ordered, ends_in_operand, ready_frames, ready}
 use Rattle.hare_nesting.proofs.UnderWay.Grown.{behind_later}
 use Rattle.hare_nesting.proofs.UnderWay.Operands.{put_operand, close_operand}
 use Rattle.hare_nesting.proofs.CheckedRows.Slots.{all_undone, is_quiet, is_loud, is_still, tame, is_operand, is_put, ends_in, is_twice, is_begun, is_begun_behind, is_named, made_for, hands_on, prepared}

@@ -11,7 +11,7 @@ use Rattle.hare_prefixes.proofs.Outcomes.Breaks.{both}
 use Rattle.hare_automaton.specs.declared.rule.Change.{Change}
 use Rattle.hare_automaton.specs.declared.rule.Change.TheVariants as ch
 use Rattle.hare_nesting.specs.Marks.{Mark, Frame, mark_as, leaf_mark, put, close, changed}
-use Rattle.hare_nesting.proofs.UnderWay.Piles.{fits, is_empty, is_ordered, kids_below, all_below}
+use Rattle.hare_nesting.proofs.UnderWay.Stacks.{fits, is_empty, is_ordered, kids_below, all_below}
 use Rattle.hare_nesting.proofs.UnderWay.Grown.{behind_later}
 use Rattle.hare_nesting.proofs.UnderWay.Below.{below_later, absent_below, leaf_below, open_below, close_below}
 use Rattle.hare_nesting.proofs.UnderWay.Orders.{put_ordered, absent_ordered, close_ordered}

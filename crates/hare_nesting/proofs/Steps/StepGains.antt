@@ -15,7 +15,7 @@ use Rattle.hare_automaton.specs.Rows.{Row, Fault, Skips, Uses, part, has_sign}
 use Rattle.hare_automaton.specs.Table.{row}
 use Rattle.hare_automaton.specs.Engine.{Group, Goes, Ends, close, all_changed, wanted, acted, step}
 use Rattle.hare_nesting.specs.Gauge.{nodes_in, found}
-use Rattle.hare_nesting.proofs.UnderWay.Piles.{frames, pile_faults, Gains, Held}
+use Rattle.hare_nesting.proofs.UnderWay.Stacks.{frames, stack_faults, Gains, Held}
 use Rattle.hare_nesting.proofs.Telling.Claims.{is_calm, calm_row, calm_step, Stepped, StepsGain, StepsEnd}
 use Rattle.hare_nesting.proofs.UnderWay.Lists.{gains_refl, gains_then}
 use Rattle.hare_nesting.proofs.Steps.Tame.{grows_none}
@@ -62,7 +62,7 @@ want_stepped t c d st gs h =
     let n = t.place.line in
     let bs = nodes_in st in
     grown_stepped n c (sy.Want d ∷ st) st gs gs
-    (grows_none n (pile_faults bs gs) (pile_faults bs gs) (found bs (frames gs)) (gains_refl (pile_faults bs gs)))
+    (grows_none n (stack_faults bs gs) (stack_faults bs gs) (found bs (frames gs)) (gains_refl (stack_faults bs gs)))
     (stands_next n bs (frames gs) (held_stands n (sy.Want d ∷ st) gs h)) (follows_tail (sy.Want d) st h.following)
     (ready_next (sy.Want d) st (frames gs) refl h.following (λ j. cc))
 
@@ -74,16 +74,16 @@ stepped_behind : (n : ℕ) (c : Class) (st u st' : List Symbol) (gs hs gs' : Lis
 stepped_behind n c st u st' gs hs gs' k q s =
     record {
       held = s.held;
-      gains = gains_then (pile_faults (nodes_in st) gs) (pile_faults (nodes_in u) hs) (pile_faults (nodes_in st') gs')
+      gains = gains_then (stack_faults (nodes_in st) gs) (stack_faults (nodes_in u) hs) (stack_faults (nodes_in st') gs')
           (found (nodes_in st') (frames gs')) k.gains s.gains;
       calm = λ e x i. by x (s.calm (q e) x i);
     }
   where
-    old : (x : ℕ) → IsOn x (pile_faults (nodes_in st) gs) ⊎ IsOn x [] → IsOn x (pile_faults (nodes_in st) gs) ⊎ (x ≡ n)
+    old : (x : ℕ) → IsOn x (stack_faults (nodes_in st) gs) ⊎ IsOn x [] → IsOn x (stack_faults (nodes_in st) gs) ⊎ (x ≡ n)
     old x (inl i) = inl i
     old x (inr i) = absurd i
 
-    by : (x : ℕ) → IsOn x (pile_faults (nodes_in u) hs) ⊎ (x ≡ n) → IsOn x (pile_faults (nodes_in st) gs) ⊎ (x ≡ n)
+    by : (x : ℕ) → IsOn x (stack_faults (nodes_in u) hs) ⊎ (x ≡ n) → IsOn x (stack_faults (nodes_in st) gs) ⊎ (x ≡ n)
     by x (inl i) = old x (k.gains.only x i)
     by x (inr e) = inr e
 
@@ -127,29 +127,29 @@ steps_gain f t st st' gs gs' h e = step_gains f t (class_of t) st st' gs gs' h e
 -- ---- where nothing more is waited for
 
 step_ends : (f : ℕ) (t : Token) (c : Class) (st : List Symbol) (gs made : List Group) → Held t.place.line st (frames gs) →
-    step f t c st gs ≡ Ends made → Gains (pile_faults (nodes_in st) gs) (pile_faults [] made) []
+    step f t c st gs ≡ Ends made → Gains (stack_faults (nodes_in st) gs) (stack_faults [] made) []
 unfolding step nodes_in
 step_ends f t c [] gs made h e =
-    let a : gs ≡ made = cc in subst (λ y. Gains (pile_faults [] gs) (pile_faults [] y) []) a (gains_refl (pile_faults [] gs))
+    let a : gs ≡ made = cc in subst (λ y. Gains (stack_faults [] gs) (stack_faults [] y) []) a (gains_refl (stack_faults [] gs))
 step_ends f t c (sy.Close k ∷ st) gs made h e =
     let s = close_skipped t.place.line k st gs h in
-    gains_then (pile_faults (nodes_in (sy.Close k ∷ st)) gs) (pile_faults (nodes_in st) (close k gs)) (pile_faults [] made) [] s.gains
+    gains_then (stack_faults (nodes_in (sy.Close k ∷ st)) gs) (stack_faults (nodes_in st) (close k gs)) (stack_faults [] made) [] s.gains
     (step_ends f t c st (close k gs) made s.held e)
 step_ends f t c (sy.Want d ∷ st) gs made h e = by (has_sign d c) e
   where
-    by : (b : Bool) → wanted b (Goes st gs) ≡ Ends made → Gains (pile_faults (nodes_in st) gs) (pile_faults [] made) []
+    by : (b : Bool) → wanted b (Goes st gs) ≡ Ends made → Gains (stack_faults (nodes_in st) gs) (stack_faults [] made) []
     by true e = cc
     by false e = cc
 step_ends f t c (sy.Part r ∷ st) gs made h e = by (row r c) refl e (λ hs i j. step_ends f t c st hs made i j)
   where
     by : (y : Row) → row r c ≡ y → acted y f t st gs (λ hs. step f t c st hs) ≡ Ends made →
         ((hs : List Group) → Held t.place.line st (frames hs) → step f t c st hs ≡ Ends made →
-        Gains (pile_faults (nodes_in st) hs) (pile_faults [] made) []) →
-        Gains (pile_faults (nodes_in (part r ∷ st)) gs) (pile_faults [] made) []
+        Gains (stack_faults (nodes_in st) hs) (stack_faults [] made) []) →
+        Gains (stack_faults (nodes_in (part r ∷ st)) gs) (stack_faults [] made) []
     by Fault i e k = cc
     by (Skips cs) i e k =
         let s = row_skipped f t c r cs st gs i h in
-        gains_then (pile_faults (nodes_in (part r ∷ st)) gs) (pile_faults (nodes_in st) (all_changed f t cs gs)) (pile_faults [] made) []
+        gains_then (stack_faults (nodes_in (part r ∷ st)) gs) (stack_faults (nodes_in st) (all_changed f t cs gs)) (stack_faults [] made) []
         s.gains (k (all_changed f t cs gs) s.held e)
     by (Uses cs ss) i e k = cc
 

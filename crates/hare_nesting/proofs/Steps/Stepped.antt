@@ -17,7 +17,7 @@ use Rattle.hare_automaton.specs.Engine.{Group, close, changed, all_changed}
 use Rattle.hare_automaton.proofs.Spelled.Paths.{split}
 use Rattle.hare_nesting.specs.Marks as seen
 use Rattle.hare_nesting.specs.Gauge.{nodes_of_rule, nodes_in, found}
-use Rattle.hare_nesting.proofs.UnderWay.Piles.{frames, pile_faults, Gains, ready_frames, ready, ends_operand, follows, Held}
+use Rattle.hare_nesting.proofs.UnderWay.Stacks.{frames, stack_faults, Gains, ready_frames, ready, ends_operand, follows, Held}
 use Rattle.hare_nesting.proofs.Telling.Claims.{calm_step, Stepped}
 use Rattle.hare_nesting.proofs.UnderWay.Lists.{gains_refl, gains_then}
 use Rattle.hare_nesting.proofs.UnderWay.Seen.{frames_close, frames_all_changed}
@@ -47,7 +47,7 @@ held_stands n st gs h = record { fitting = h.fitting; ordered = h.ordered; below
 
 -- what a used token leaves, where what it gains is found
 pub grown_stepped : (n : ℕ) (c : Class) (st st' : List Symbol) (gs gs' : List Group) →
-    Grows n (pile_faults (nodes_in st) gs) (pile_faults (nodes_in st') gs') (found (nodes_in st') (frames gs')) →
+    Grows n (stack_faults (nodes_in st) gs) (stack_faults (nodes_in st') gs') (found (nodes_in st') (frames gs')) →
     Stands n (suc n) (nodes_in st') (frames gs') → follows st' ≡ true → ready st' (frames gs') ≡ true → Stepped n c st gs st' gs'
 grown_stepped n c st st' gs gs' g s f r =
     record {
@@ -56,19 +56,19 @@ grown_stepped n c st st' gs gs' g s f r =
       calm = λ e x i. new x (g.only x i);
     }
   where
-    told : (x : ℕ) → IsOn x (pile_faults (nodes_in st) gs) ⊎ ((x ≡ n) × IsOn x (found (nodes_in st') (frames gs'))) →
-        IsOn x (pile_faults (nodes_in st) gs) ⊎ IsOn x (found (nodes_in st') (frames gs'))
+    told : (x : ℕ) → IsOn x (stack_faults (nodes_in st) gs) ⊎ ((x ≡ n) × IsOn x (found (nodes_in st') (frames gs'))) →
+        IsOn x (stack_faults (nodes_in st) gs) ⊎ IsOn x (found (nodes_in st') (frames gs'))
     told x (inl i) = inl i
     told x (inr i) = inr i.1
 
-    new : (x : ℕ) → IsOn x (pile_faults (nodes_in st) gs) ⊎ ((x ≡ n) × IsOn x (found (nodes_in st') (frames gs'))) →
-        IsOn x (pile_faults (nodes_in st) gs) ⊎ (x ≡ n)
+    new : (x : ℕ) → IsOn x (stack_faults (nodes_in st) gs) ⊎ ((x ≡ n) × IsOn x (found (nodes_in st') (frames gs'))) →
+        IsOn x (stack_faults (nodes_in st) gs) ⊎ (x ≡ n)
     new x (inl i) = inl i
     new x (inr i) = inr i.0
 
 -- The same where more than the token is gained, by a row that is not calm.
 pub told_stepped : (n : ℕ) (c : Class) (st st' : List Symbol) (gs gs' : List Group) →
-    Gains (pile_faults (nodes_in st) gs) (pile_faults (nodes_in st') gs') (found (nodes_in st') (frames gs')) →
+    Gains (stack_faults (nodes_in st) gs) (stack_faults (nodes_in st') gs') (found (nodes_in st') (frames gs')) →
     Stands n (suc n) (nodes_in st') (frames gs') → follows st' ≡ true → ready st' (frames gs') ≡ true → (calm_step c st ≡ true → ⊥) →
     Stepped n c st gs st' gs'
 told_stepped n c st st' gs gs' g s f r e = record {
@@ -105,7 +105,7 @@ row_used f t os bs cs ss gs e s =
 -- the same token is looked at again, and nothing is gained
 pub record Skipped (n : ℕ) (st : List Symbol) (gs : List Group) (st' : List Symbol) (gs' : List Group) : Type 0 where
   pub held : Held n st' (frames gs')
-  pub gains : Gains (pile_faults (nodes_in st) gs) (pile_faults (nodes_in st') gs') []
+  pub gains : Gains (stack_faults (nodes_in st) gs) (stack_faults (nodes_in st') gs') []
 
 pub close_skipped : (n : ℕ) (k : Kind) (st : List Symbol) (gs : List Group) → Held n (sy.Close k ∷ st) (frames gs) →
     Skipped n (sy.Close k ∷ st) gs st (close k gs)
@@ -141,19 +141,19 @@ over_tame (c ∷ cs) bs e = cc
 
 -- what is absent is put, and trees are closed
 record Left (n : ℕ) (bs os : List Bool) (gs hs : List Group) : Type 0 where
-  gains : Gains (pile_faults bs gs) (pile_faults os hs) []
+  gains : Gains (stack_faults bs gs) (stack_faults os hs) []
   stands : Stands n n os (frames hs)
 
 over_left : (f : ℕ) (t : Token) (cs : List Change) (bs : List Bool) (gs : List Group) → list_all is_over cs ≡ true →
     Stands t.place.line t.place.line (all_undone cs bs) (frames gs) → Left t.place.line (all_undone cs bs) bs gs (all_changed f t cs gs)
-over_left f t [] bs gs e s = record { gains = gains_refl (pile_faults bs gs); stands = s }
+over_left f t [] bs gs e s = record { gains = gains_refl (stack_faults bs gs); stands = s }
 over_left f t (ch.Absent ∷ cs) bs gs e s =
     let n = t.place.line in
     let us = all_undone cs bs in
     let hs = changed f t ch.Absent gs in
     let r = over_left f t cs bs hs e (moved f t ch.Absent n us gs (absent_stands n n us (frames gs) s)) in
     record {
-      gains = gains_then (pile_faults us gs) (pile_faults us hs) (pile_faults bs (all_changed f t cs hs)) []
+      gains = gains_then (stack_faults us gs) (stack_faults us hs) (stack_faults bs (all_changed f t cs hs)) []
           (absent_gains us f gs s.fitting) r.gains;
       stands = r.stands;
     }
@@ -163,7 +163,7 @@ over_left f t (ch.Close k ∷ cs) bs gs e s =
     let hs = close k gs in
     let r = over_left f t cs bs hs e (moved f t (ch.Close k) n us gs (close_stands n n k us (frames gs) s)) in
     record {
-      gains = gains_then (pile_faults (is_node k ∷ us) gs) (pile_faults us hs) (pile_faults bs (all_changed f t cs hs)) []
+      gains = gains_then (stack_faults (is_node k ∷ us) gs) (stack_faults us hs) (stack_faults bs (all_changed f t cs hs)) []
           (closes k n n us gs s) r.gains;
       stands = r.stands;
     }
@@ -210,7 +210,7 @@ rule_skipped f t c r cs st gs p i h =
 -- a checked row, behind changes that gain nothing
 pub used_stepped : (f : ℕ) (t : Token) (c : Class) (s : Symbol) (os : List Bool) (cs : List Change) (ss st : List Symbol)
     (gs hs : List Group) → hands_on s ≡ false → follows (s ∷ st) ≡ true → uses_ok os (Uses cs ss) ≡ true →
-    (ends_operand s ≡ true → ends_stack cs ss ≡ true) → Gains (pile_faults (nodes_in (s ∷ st)) gs) (pile_faults (os ++ nodes_in st) hs) [] →
+    (ends_operand s ≡ true → ends_stack cs ss ≡ true) → Gains (stack_faults (nodes_in (s ∷ st)) gs) (stack_faults (os ++ nodes_in st) hs) [] →
     Stands t.place.line (suc t.place.line) (os ++ nodes_in st) (frames hs) →
     Stepped t.place.line c (s ∷ st) gs (ss ++ st) (all_changed f t cs hs)
 used_stepped f t c s os cs ss st gs hs p e o ends g z =
@@ -221,8 +221,8 @@ used_stepped f t c s os cs ss st gs hs p e o ends g z =
     let u = row_used f t os (nodes_in st) cs ss hs o z in
     let m : Made n (os ++ nodes_in st) (nodes_in (ss ++ st)) hs made =
     subst (λ l. Made n (os ++ nodes_in st) l hs made) (sym (nodes_append ss st)) u.made in
-    let grows = grows_behind n (pile_faults (nodes_in (s ∷ st)) gs) (pile_faults (os ++ nodes_in st) hs)
-    (pile_faults (nodes_in (ss ++ st)) made) (found (nodes_in (ss ++ st)) (frames made)) g m.grows in
+    let grows = grows_behind n (stack_faults (nodes_in (s ∷ st)) gs) (stack_faults (os ++ nodes_in st) hs)
+    (stack_faults (nodes_in (ss ++ st)) made) (found (nodes_in (ss ++ st)) (frames made)) g m.grows in
     grown_stepped n c (s ∷ st) (ss ++ st) gs made grows m.stands (follows_next s cs ss st p e q.0 ends)
     (readied ss q.1 ends u.readied u.operand)
   where
@@ -242,5 +242,5 @@ rule_stepped f t c r cs ss st gs p i h =
     let bs = nodes_in (sy.Part r ∷ st) in
     let o : uses_ok (nodes_of_rule r) (Uses cs ss) ≡ true = subst (λ y. row_ok (nodes_of_rule r) y ≡ true) i (rule_ok r c p) in
     used_stepped f t c (sy.Part r) (nodes_of_rule r) cs ss st gs gs (plain_hands (sy.Part r) p) h.following o
-    (λ j. subst (λ y. ends_row y ≡ true) i (rule_ends r c p j)) (gains_refl (pile_faults bs gs))
+    (λ j. subst (λ y. ends_row y ≡ true) i (rule_ends r c p j)) (gains_refl (stack_faults bs gs))
     (stands_next n bs (frames gs) (held_stands n (sy.Part r ∷ st) gs h))

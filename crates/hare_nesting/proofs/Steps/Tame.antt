@@ -15,7 +15,7 @@ use Rattle.hare_automaton.proofs.Machine.Edges.{true_le}
 use Rattle.hare_nesting.specs.Marks.{Mark, Frame, leaf_mark, put}
 use Rattle.hare_nesting.specs.Marks as seen
 use Rattle.hare_nesting.specs.Gauge.{opened, found, deep_frame, deep_last, high_operand}
-use Rattle.hare_nesting.proofs.UnderWay.Piles.{mark, frame_of, frames, pile_faults, Gains, fits}
+use Rattle.hare_nesting.proofs.UnderWay.Stacks.{mark, frame_of, frames, stack_faults, Gains, fits}
 use Rattle.hare_nesting.proofs.UnderWay.Lists.{on_left, on_right, gains_refl, gains_none}
 use Rattle.hare_nesting.proofs.UnderWay.Seen.{frames_add, frames_changed}
 use Rattle.hare_nesting.proofs.UnderWay.Grown.{behind_later, top_grown}
@@ -64,13 +64,13 @@ grows_if n b old new told g f = record { kept = g.kept; only = λ x i. by x (g.o
 -- ---- leaves
 
 leaf_gains : (bs : List Bool) (h : Head) (gs : List Group) → at_most h.place.line (frames gs) ≡ true → fits bs (frames gs) →
-    Gains (pile_faults bs gs) (pile_faults bs (add (branch h none) gs))
+    Gains (stack_faults bs gs) (stack_faults bs (add (branch h none) gs))
     (if is_node h.kind && nat_le 256 (opened bs) then h.place.line ∷ [] else [])
 leaf_gains bs h [] p i = absurd (omega (arith, i))
 leaf_gains bs h (g ∷ hs) p i =
     let t = branch h none in
     let at = split (nat_le g.place.line h.place.line) (at_most h.place.line (frames hs)) p in
-    subst (λ l. Gains (pile_faults bs (g ∷ hs)) (pile_faults bs (add t (g ∷ hs))) l) (leaf_faults (opened bs) h)
+    subst (λ l. Gains (stack_faults bs (g ∷ hs)) (stack_faults bs (add t (g ∷ hs))) l) (leaf_faults (opened bs) h)
     (top_grown bs g hs t (behind_later g.place.line (map mark g.kids) (mark t) (true_le g.place.line h.place.line at.0)))
 
 deep_put : (n : ℕ) (ms : List Mark) (m : Mark) → deep_last n (ms ++ m ∷ []) ≡ (if m.node && nat_le 256 n then m.first ∷ [] else [])
@@ -90,12 +90,12 @@ leaf_found n k bs f fs x i =
 -- ---- one change
 
 quiet_leaf : (h : Head) (bs : List Bool) (gs : List Group) → not (is_node h.kind) ≡ true →
-    Stands h.place.line (suc h.place.line) bs (frames gs) → Gains (pile_faults bs gs) (pile_faults bs (add (branch h none) gs)) []
+    Stands h.place.line (suc h.place.line) bs (frames gs) → Gains (stack_faults bs gs) (stack_faults bs (add (branch h none) gs)) []
 quiet_leaf h bs gs q s = by (is_node h.kind) q (leaf_gains bs h gs s.placed s.fitting)
   where
-    by : (b : Bool) → not b ≡ true → Gains (pile_faults bs gs) (pile_faults bs (add (branch h none) gs))
+    by : (b : Bool) → not b ≡ true → Gains (stack_faults bs gs) (stack_faults bs (add (branch h none) gs))
         (if b && nat_le 256 (opened bs) then h.place.line ∷ [] else []) →
-        Gains (pile_faults bs gs) (pile_faults bs (add (branch h none) gs)) []
+        Gains (stack_faults bs gs) (stack_faults bs (add (branch h none) gs)) []
     by true i g = cc
     by false i g = g
 
@@ -104,14 +104,14 @@ pub moved : (f : ℕ) (t : Token) (c : Change) (m : ℕ) (bs : List Bool) (gs : 
 moved f t c m bs gs s = subst (λ l. Stands t.place.line m bs l) (sym (frames_changed f t c gs)) s
 
 pub closes : (k : Kind) (n m : ℕ) (bs : List Bool) (gs : List Group) → Stands n m (is_node k ∷ bs) (frames gs) →
-    Gains (pile_faults (is_node k ∷ bs) gs) (pile_faults bs (close k gs)) []
+    Gains (stack_faults (is_node k ∷ bs) gs) (stack_faults bs (close k gs)) []
 closes k n m bs [] s = absurd (omega (arith, s.fitting))
 closes k n m bs (g ∷ []) s = absurd (omega (arith, s.fitting))
 closes k n m bs (g ∷ h ∷ hs) s = close_gains k bs g h hs s.fitting s.ordered
 
 quiet_gains : (f : ℕ) (t : Token) (c : Change) (bs : List Bool) (gs : List Group) → is_quiet c bs ≡ true →
     Stands t.place.line (suc t.place.line) (undone c bs) (frames gs) →
-    Gains (pile_faults (undone c bs) gs) (pile_faults bs (changed f t c gs)) []
+    Gains (stack_faults (undone c bs) gs) (stack_faults bs (changed f t c gs)) []
 quiet_gains f t ch.Absent bs gs q s = absent_gains bs f gs s.fitting
 quiet_gains f t (ch.Mark k) bs gs q s = quiet_leaf (head_in k (begun t.place [])) bs gs q s
 quiet_gains f t (ch.Leaf k) bs gs q s = quiet_leaf
@@ -119,18 +119,18 @@ quiet_gains f t (ch.Leaf k) bs gs q s = quiet_leaf
 quiet_gains f t ch.Open [] gs q s = cc
 quiet_gains f t ch.Open (true ∷ bs) gs q s = cc
 quiet_gains f t ch.Open (false ∷ bs) gs q s = open_gains false bs t.place gs s.fitting
-quiet_gains f t ch.Take bs gs q s = gains_none (pile_faults bs gs) (pile_faults bs (changed f t ch.Take gs)) (sym (take_same t bs gs))
-quiet_gains f t ch.Join bs gs q s = gains_none (pile_faults bs gs) (pile_faults bs (changed f t ch.Join gs)) (sym (join_same t bs gs))
+quiet_gains f t ch.Take bs gs q s = gains_none (stack_faults bs gs) (stack_faults bs (changed f t ch.Take gs)) (sym (take_same t bs gs))
+quiet_gains f t ch.Join bs gs q s = gains_none (stack_faults bs gs) (stack_faults bs (changed f t ch.Join gs)) (sym (join_same t bs gs))
 quiet_gains f t (ch.Close k) bs gs q s = closes k t.place.line (suc t.place.line) bs gs s
 quiet_gains f t _ bs gs q s = cc
 
 loud_leaf : (h : Head) (bs : List Bool) (gs : List Group) → mark (branch h none) ≡ leaf_mark h.kind h.place.line →
     Stands h.place.line (suc h.place.line) bs (frames gs) →
-    Grows h.place.line (pile_faults bs gs) (pile_faults bs (add (branch h none) gs)) (found bs (frames (add (branch h none) gs)))
+    Grows h.place.line (stack_faults bs gs) (stack_faults bs (add (branch h none) gs)) (found bs (frames (add (branch h none) gs)))
 loud_leaf h bs [] i s = absurd (omega (arith, s.fitting))
 loud_leaf h bs (g ∷ gs) i s =
     let new = add (branch h none) (g ∷ gs) in
-    grows_if h.place.line (is_node h.kind && nat_le 256 (opened bs)) (pile_faults bs (g ∷ gs)) (pile_faults bs new) (found bs (frames new))
+    grows_if h.place.line (is_node h.kind && nat_le 256 (opened bs)) (stack_faults bs (g ∷ gs)) (stack_faults bs new) (found bs (frames new))
     (leaf_gains bs h (g ∷ gs) s.placed s.fitting)
     (λ x j. subst (λ l. IsOn x (found bs l)) (sym (frames_add (branch h none) (g ∷ gs) ∙ ap (λ m. put m (frames (g ∷ gs))) i))
     (leaf_found h.place.line h.kind bs (frame_of g) (frames gs) x j))
@@ -143,20 +143,20 @@ begins n false bs fs x i = absurd i
 
 loud_grows : (f : ℕ) (t : Token) (c : Change) (bs : List Bool) (gs : List Group) → is_loud c bs ≡ true →
     Stands t.place.line (suc t.place.line) (undone c bs) (frames gs) →
-    Grows t.place.line (pile_faults (undone c bs) gs) (pile_faults bs (changed f t c gs)) (found bs (frames (changed f t c gs)))
+    Grows t.place.line (stack_faults (undone c bs) gs) (stack_faults bs (changed f t c gs)) (found bs (frames (changed f t c gs)))
 loud_grows f t (ch.Mark k) bs gs q s = loud_leaf (head_in k (begun t.place [])) bs gs refl s
 loud_grows f t (ch.Leaf k) bs gs q s = loud_leaf (record { kind = k; place = t.place; text = t.text; number = t.number; suffix = t.suffix })
     bs gs refl s
 loud_grows f t ch.Open [] gs q s = cc
-loud_grows f t ch.Open (b ∷ bs) gs q s = grows_if t.place.line (b && nat_le 256 (opened bs)) (pile_faults bs gs)
-    (pile_faults (b ∷ bs) (begun t.place [] ∷ gs)) (found (b ∷ bs) (frames (begun t.place [] ∷ gs))) (open_gains b bs t.place gs s.fitting)
+loud_grows f t ch.Open (b ∷ bs) gs q s = grows_if t.place.line (b && nat_le 256 (opened bs)) (stack_faults bs gs)
+    (stack_faults (b ∷ bs) (begun t.place [] ∷ gs)) (found (b ∷ bs) (frames (begun t.place [] ∷ gs))) (open_gains b bs t.place gs s.fitting)
     (begins t.place.line b bs (frames gs))
 loud_grows f t _ bs gs q s = cc
 
 -- ---- all changes of a row
 
 pub still_same : (f : ℕ) (t : Token) (cs : List Change) (bs : List Bool) (gs : List Group) → list_all is_still cs ≡ true →
-    (pile_faults bs (all_changed f t cs gs) ≡ pile_faults bs gs) × (frames (all_changed f t cs gs) ≡ frames gs)
+    (stack_faults bs (all_changed f t cs gs) ≡ stack_faults bs gs) × (frames (all_changed f t cs gs) ≡ frames gs)
 still_same f t [] bs gs e = (refl, refl)
 still_same f t (ch.Take ∷ cs) bs gs e =
     let r = still_same f t cs bs (changed f t ch.Take gs) e in (r.0 ∙ take_same t bs gs, r.1 ∙ frames_changed f t ch.Take gs)
@@ -166,15 +166,15 @@ still_same f t (c ∷ cs) bs gs e = cc
 
 -- what the changes of a row leave
 pub record Made (n : ℕ) (bs os : List Bool) (gs hs : List Group) : Type 0 where
-  pub grows : Grows n (pile_faults bs gs) (pile_faults os hs) (found os (frames hs))
+  pub grows : Grows n (stack_faults bs gs) (stack_faults os hs) (found os (frames hs))
   pub stands : Stands n (suc n) os (frames hs)
 
 pub tame_grows : (f : ℕ) (t : Token) (cs : List Change) (bs : List Bool) (gs : List Group) → tame cs bs ≡ true →
     Stands t.place.line (suc t.place.line) (all_undone cs bs) (frames gs) →
     Made t.place.line (all_undone cs bs) bs gs (all_changed f t cs gs)
 tame_grows f t [] bs gs e s = record {
-  grows = grows_none t.place.line (pile_faults bs gs) (pile_faults bs gs) (found bs (frames gs))
-      (gains_refl (pile_faults bs gs));
+  grows = grows_none t.place.line (stack_faults bs gs) (stack_faults bs gs) (found bs (frames gs))
+      (gains_refl (stack_faults bs gs));
   stands = s;
 }
 tame_grows f t (c ∷ cs) bs gs e s = by (is_quiet c (all_undone cs bs)) refl e (λ i hs q. tame_grows f t cs bs hs i q)
@@ -195,7 +195,7 @@ tame_grows f t (c ∷ cs) bs gs e s = by (is_quiet c (all_undone cs bs)) refl e 
         let a = quiet_gains f t c us gs q s in
         let r = k i hs (moved f t c (suc n) us gs (quiet_stands n c us (frames gs) q s)) in
         record {
-          grows = grows_behind n (pile_faults (undone c us) gs) (pile_faults us hs) (pile_faults bs (all_changed f t cs hs))
+          grows = grows_behind n (stack_faults (undone c us) gs) (stack_faults us hs) (stack_faults bs (all_changed f t cs hs))
               (found bs (frames (all_changed f t cs hs))) a r.grows;
           stands = r.stands;
         }

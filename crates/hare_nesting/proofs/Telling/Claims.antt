@@ -24,7 +24,7 @@ use Rattle.hare_prefixes.proofs.Completion.Endings.{good, closing}
 use Rattle.hare_prefixes.proofs.Outcomes.Alike.{classes}
 use Rattle.hare_nesting.specs.Gauge.{Gauged, Seen, seen_in, with_faults, nodes_in, found, gauge}
 use Rattle.hare_nesting.specs.Gauge as gauges
-use Rattle.hare_nesting.proofs.UnderWay.Piles.{frames, faults_of, pile_faults, Gains, Held}
+use Rattle.hare_nesting.proofs.UnderWay.Stacks.{frames, faults_of, stack_faults, Gains, Held}
 
 -- ---- trees: the letter, and as they are read
 
@@ -82,8 +82,8 @@ calm_step c (sy.Part r ∷ st) = calm_row (row r c) (is_calm r c) (calm_step c s
 -- what a token that is used leaves
 pub record Stepped (n : ℕ) (c : Class) (st : List Symbol) (gs : List Group) (st' : List Symbol) (gs' : List Group) : Type 0 where
   pub held : Held (suc n) st' (frames gs')
-  pub gains : Gains (pile_faults (nodes_in st) gs) (pile_faults (nodes_in st') gs') (found (nodes_in st') (frames gs'))
-  pub calm : calm_step c st ≡ true → (x : ℕ) → IsOn x (pile_faults (nodes_in st') gs') → IsOn x (pile_faults (nodes_in st) gs) ⊎ (x ≡ n)
+  pub gains : Gains (stack_faults (nodes_in st) gs) (stack_faults (nodes_in st') gs') (found (nodes_in st') (frames gs'))
+  pub calm : calm_step c st ≡ true → (x : ℕ) → IsOn x (stack_faults (nodes_in st') gs') → IsOn x (stack_faults (nodes_in st) gs) ⊎ (x ≡ n)
 
 abbrev pub StepsGain : Type 0
 StepsGain =
@@ -94,7 +94,7 @@ StepsGain =
 abbrev pub StepsEnd : Type 0
 StepsEnd =
     (f : ℕ) (t : Token) (st : List Symbol) (gs made : List Group) → Held t.place.line st (frames gs) →
-    step f t (class_of t) st gs ≡ Ends made → Gains (pile_faults (nodes_in st) gs) (pile_faults [] made) []
+    step f t (class_of t) st gs ≡ Ends made → Gains (stack_faults (nodes_in st) gs) (stack_faults [] made) []
 
 -- ---- the tokens that bring a stack to its end
 

@@ -12,7 +12,7 @@ use Rattle.hare_prefixes.proofs.Completion.Closing.{closes}
 use Rattle.hare_prefixes.proofs.Outcomes.Alike.{classes}
 use Rattle.hare_prefixes.proofs.Completion.Viable.{end}
 use Rattle.hare_nesting.specs.Gauge.{numbered, nodes_in, seen_in}
-use Rattle.hare_nesting.proofs.UnderWay.Piles.{frames, pile_faults, Gains, Held}
+use Rattle.hare_nesting.proofs.UnderWay.Stacks.{frames, stack_faults, Gains, Held}
 use Rattle.hare_nesting.proofs.Telling.Claims.{StepsGain, StepsEnd}
 use Rattle.hare_nesting.proofs.UnderWay.Lists.{gains_back}
 use Rattle.hare_nesting.proofs.Telling.Calm.{closings_are_calm}
@@ -57,10 +57,10 @@ lines_from n [] m x a i = absurd i
 lines_from n (t ∷ w) m x a (inl e) = omega (arith, a.0, e)
 lines_from n (t ∷ w) m x a (inr i) = let r = lines_from (suc t.place.line) w m x a.1 i in omega (arith, a.0, r)
 
--- what is made passes no limits but those that are passed in the pile, and at the tokens that close it
+-- what is made passes no limits but those that are passed in the stack, and at the tokens that close it
 close_adds : StepsGain → StepsEnd → (n : ℕ) (st : List Symbol) (gs made : List Group) → good st cl.Junk ≡ true → Held n st (frames gs) →
-    run 0 (closers n st ++ closed_end n st ∷ []) st gs ≡ Done (closed_end n st ∷ []) made → (x : ℕ) → IsOn x (pile_faults [] made) →
-    IsOn x (pile_faults (nodes_in st) gs) ⊎ (n ≤ x)
+    run 0 (closers n st ++ closed_end n st ∷ []) st gs ≡ Done (closed_end n st ∷ []) made → (x : ℕ) → IsOn x (stack_faults [] made) →
+    IsOn x (stack_faults (nodes_in st) gs) ⊎ (n ≤ x)
 close_adds sg se n st gs made g h d x i =
     let c = closers n st in
     let z = closed_end n st in
@@ -70,12 +70,12 @@ close_adds sg se n st gs made g h d x i =
     let p = ascends_apart n c (z ∷ []) _ (closers_ascend n st) in
     let a : Ascends n c z.place.line = ascends_to n c p.0 z.place.line (ascends_first p.0 z [] _ p.2) p.1 in
     let k = reaches_gained sg 0 c st s.next gs s.trees s.told n z.place.line a h r in
-    let q = gains_back (pile_faults (nodes_in s.next) s.trees) (pile_faults [] made) (se 0 z s.next s.trees made k.held s.stops) in
+    let q = gains_back (stack_faults (nodes_in s.next) s.trees) (stack_faults [] made) (se 0 z s.next s.trees made k.held s.stops) in
     let calm = closings_are_calm 0 cl.Junk st gs c g (plain_classes c (closing st) (unplaced_numbered n (closing st))) in
     by a (reaches_calm sg 0 c st s.next gs s.trees s.told n z.place.line a h r calm x (q.kept x i))
   where
-    by : Ascends n (closers n st) (closed_end n st).place.line → IsOn x (pile_faults (nodes_in st) gs) ⊎ IsOn x (lines (closers n st)) →
-        IsOn x (pile_faults (nodes_in st) gs) ⊎ (n ≤ x)
+    by : Ascends n (closers n st) (closed_end n st).place.line → IsOn x (stack_faults (nodes_in st) gs) ⊎ IsOn x (lines (closers n st)) →
+        IsOn x (stack_faults (nodes_in st) gs) ⊎ (n ≤ x)
     by a (inl j) = inl j
     by a (inr j) = inr (lines_from n (closers n st) _ x a j)
 
@@ -113,8 +113,8 @@ closed sg se l st s u next trees told high a r =
     let t = s.reads (u ++ c) z top made asc refl run_all in
     let w = whole sg se st s.held s.none (u ++ c) z top made asc run_all in
     let b : IsFront u (u ++ c) = record { more = map seen_in c; is = map-append seen_in u c } in
-    let f : Gains (map (line_of (u ++ (c ++ z ∷ []))) (l.deep_of t.tree)) (pile_faults [] made) [] =
-    subst (λ v. Gains (map (line_of v) (l.deep_of t.tree)) (pile_faults [] made) []) e t.faulty.faults in
+    let f : Gains (map (line_of (u ++ (c ++ z ∷ []))) (l.deep_of t.tree)) (stack_faults [] made) [] =
+    subst (λ v. Gains (map (line_of v) (l.deep_of t.tree)) (stack_faults [] made) []) e t.faulty.faults in
     let q = reaches_gained sg 0 u st next bottom trees told 1 high a s.held r in
     record {
       tree = t.tree;
@@ -124,17 +124,17 @@ closed sg se l st s u next trees told high a r =
       after = c ++ z ∷ [];
       top = top;
       ascends = closers_ascend high next;
-      forced = λ x i. (gains_back _ (pile_faults [] made) f).kept x
+      forced = λ x i. (gains_back _ (stack_faults [] made) f).kept x
           (w.gains.gained x (told_in_front st next w.next u (u ++ c) trees w.trees told w.told r w.reaches b x i));
       only = λ x i. told_or x (q.gains.only x) (close_adds sg se high next trees made g q.held d.1 x (f.kept x i));
       within = λ k i. let y = t.faulty.within k i in omega (arith, y, ap length e, length-append (u ++ c) (z ∷ []));
     }
   where
-    told_or : (x : ℕ) → (IsOn x (pile_faults (nodes_in next) trees) → IsOn x (pile_faults (nodes_in st) bottom) ⊎ IsOn x told) →
-        IsOn x (pile_faults (nodes_in next) trees) ⊎ (high ≤ x) → IsOn x told ⊎ (high ≤ x)
+    told_or : (x : ℕ) → (IsOn x (stack_faults (nodes_in next) trees) → IsOn x (stack_faults (nodes_in st) bottom) ⊎ IsOn x told) →
+        IsOn x (stack_faults (nodes_in next) trees) ⊎ (high ≤ x) → IsOn x told ⊎ (high ≤ x)
     told_or x k (inr h) = inr h
     told_or x k (inl i) = by (k i)
       where
-        by : IsOn x (pile_faults (nodes_in st) bottom) ⊎ IsOn x told → IsOn x told ⊎ (high ≤ x)
+        by : IsOn x (stack_faults (nodes_in st) bottom) ⊎ IsOn x told → IsOn x told ⊎ (high ≤ x)
         by (inl j) = absurd (subst (IsOn x) s.none j)
         by (inr j) = inl j

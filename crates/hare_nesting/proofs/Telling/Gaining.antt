@@ -10,7 +10,7 @@ use Rattle.hare_automaton.proofs.Spelled.Paths.{split}
 use Rattle.hare_prefixes.proofs.Outcomes.Breaks.{both}
 use Rattle.hare_nesting.specs.Marks.{Mark, Frame}
 use Rattle.hare_nesting.specs.Gauge.{nodes_in, found}
-use Rattle.hare_nesting.proofs.UnderWay.Piles.{frames, pile_faults, Gains, kids_below, all_below, Held}
+use Rattle.hare_nesting.proofs.UnderWay.Stacks.{frames, stack_faults, Gains, kids_below, all_below, Held}
 use Rattle.hare_nesting.proofs.UnderWay.Lists.{on_left, on_right, on_either, gains_refl}
 use Rattle.hare_nesting.proofs.Telling.Claims.{StepsGain, calm_after, Calm}
 use Rattle.hare_nesting.proofs.Telling.Reaches.{Reaches, stays, goes_onward}
@@ -81,7 +81,7 @@ gains_in_turn a b c x y g h = record {
 -- what the tokens leave in front of a token with the number `m`
 pub record Gained (m : ℕ) (st : List Symbol) (gs : List Group) (st' : List Symbol) (gs' : List Group) (ns : List ℕ) : Type 0 where
   pub held : Held m st' (frames gs')
-  pub gains : Gains (pile_faults (nodes_in st) gs) (pile_faults (nodes_in st') gs') ns
+  pub gains : Gains (stack_faults (nodes_in st) gs) (stack_faults (nodes_in st') gs') ns
 
 pub reaches_gained : StepsGain → (f : ℕ) (w : List Token) (st st' : List Symbol) (gs gs' : List Group) (ns : List ℕ) (n m : ℕ) →
     Ascends n w m → Held n st (frames gs) → Reaches f w st gs st' gs' ns → Gained m st gs st' gs' ns
@@ -89,15 +89,15 @@ unfolding Ascends
 reaches_gained g f [] st st' gs gs' ns n m a h r =
     let s = stays f st st' gs gs' ns r in
     rw (sym s.symbols, sym s.trees, s.tells)
-    (record { held = held_more n m st (frames gs) a h; gains = gains_refl (pile_faults (nodes_in st) gs) })
+    (record { held = held_more n m st (frames gs) a h; gains = gains_refl (stack_faults (nodes_in st) gs) })
 reaches_gained g f (t ∷ w) st st' gs gs' ns n m a h r =
     let o = goes_onward f t w st st' gs gs' ns r in
     let s = g f t st o.next gs o.trees (held_more n t.place.line st (frames gs) a.0 h) o.steps in
     let q = reaches_gained g f w o.next st' o.trees gs' o.later (suc t.place.line) m a.1 s.held o.goes in
     record {
       held = q.held;
-      gains = subst (Gains (pile_faults (nodes_in st) gs) (pile_faults (nodes_in st') gs')) (sym o.tells)
-          (gains_in_turn (pile_faults (nodes_in st) gs) (pile_faults (nodes_in o.next) o.trees) (pile_faults (nodes_in st') gs')
+      gains = subst (Gains (stack_faults (nodes_in st) gs) (stack_faults (nodes_in st') gs')) (sym o.tells)
+          (gains_in_turn (stack_faults (nodes_in st) gs) (stack_faults (nodes_in o.next) o.trees) (stack_faults (nodes_in st') gs')
           (found (nodes_in o.next) (frames o.trees)) o.later s.gains q.gains);
     }
 
@@ -108,21 +108,21 @@ lines w = map (λ t. t.place.line) w
 -- over calm rows no limit is passed but at the tokens themselves
 pub reaches_calm : StepsGain → (f : ℕ) (w : List Token) (st st' : List Symbol) (gs gs' : List Group) (ns : List ℕ) (n m : ℕ) →
     Ascends n w m → Held n st (frames gs) → Reaches f w st gs st' gs' ns → Calm f w st gs → (x : ℕ) →
-    IsOn x (pile_faults (nodes_in st') gs') → IsOn x (pile_faults (nodes_in st) gs) ⊎ IsOn x (lines w)
+    IsOn x (stack_faults (nodes_in st') gs') → IsOn x (stack_faults (nodes_in st) gs) ⊎ IsOn x (lines w)
 unfolding Ascends Calm
 reaches_calm g f [] st st' gs gs' ns n m a h r c x i = let s = stays f st st' gs gs' ns r in inl (rw (s.symbols, s.trees) i)
 reaches_calm g f (t ∷ w) st st' gs gs' ns n m a h r c x i =
     let o = goes_onward f t w st st' gs gs' ns r in
     let s = g f t st o.next gs o.trees (held_more n t.place.line st (frames gs) a.0 h) o.steps in
     let d : Calm f w o.next o.trees = subst (λ z. calm_after z (λ st1 gs1. Calm f w st1 gs1)) o.steps c.1 in
-    by (pile_faults (nodes_in o.next) o.trees) (s.calm c.0 x)
+    by (stack_faults (nodes_in o.next) o.trees) (s.calm c.0 x)
     (reaches_calm g f w o.next st' o.trees gs' o.later (suc t.place.line) m a.1 s.held o.goes d x i)
   where
-    here : IsOn x (pile_faults (nodes_in st) gs) ⊎ (x ≡ t.place.line) → IsOn x (pile_faults (nodes_in st) gs) ⊎ IsOn x (lines (t ∷ w))
+    here : IsOn x (stack_faults (nodes_in st) gs) ⊎ (x ≡ t.place.line) → IsOn x (stack_faults (nodes_in st) gs) ⊎ IsOn x (lines (t ∷ w))
     here (inl j) = inl j
     here (inr e) = inr (inl e)
 
-    by : (ms : List ℕ) → (IsOn x ms → IsOn x (pile_faults (nodes_in st) gs) ⊎ (x ≡ t.place.line)) → IsOn x ms ⊎ IsOn x (lines w) →
-        IsOn x (pile_faults (nodes_in st) gs) ⊎ IsOn x (lines (t ∷ w))
+    by : (ms : List ℕ) → (IsOn x ms → IsOn x (stack_faults (nodes_in st) gs) ⊎ (x ≡ t.place.line)) → IsOn x ms ⊎ IsOn x (lines w) →
+        IsOn x (stack_faults (nodes_in st) gs) ⊎ IsOn x (lines (t ∷ w))
     by ms k (inl j) = here (k j)
     by ms k (inr j) = inr (inr j)

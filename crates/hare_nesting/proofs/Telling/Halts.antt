@@ -7,7 +7,7 @@ use Rattle.hare_automaton.specs.Classes.{class_of}
 use Rattle.hare_automaton.specs.Engine.{Group, Step, Goes, Ends, Stuck, step, Done, after, run}
 use Rattle.hare_nesting.specs.Gauge.{Gauged, seen_in, with_faults, nodes_in, found, gauge}
 use Rattle.hare_nesting.specs.Gauge as gauges
-use Rattle.hare_nesting.proofs.UnderWay.Piles.{frames}
+use Rattle.hare_nesting.proofs.UnderWay.Stacks.{frames}
 use Rattle.hare_nesting.proofs.Telling.Claims.{seen_step}
 use Rattle.hare_nesting.proofs.UnderWay.SeenSteps.{steps_are_seen}
 use Rattle.hare_nesting.proofs.Telling.Reaches.{Reaches, reaches_none, reaches_more, gauge_reaches}

@@ -8,7 +8,7 @@ use Rattle.hare_automaton.specs.Engine.{Group, Step, Goes, Ends, Stuck, step}
 use Rattle.hare_nesting.specs.Marks.{Frame}
 use Rattle.hare_nesting.specs.Gauge.{Seen, seen_in, nodes_in, found}
 use Rattle.hare_nesting.specs.Gauge as gauges
-use Rattle.hare_nesting.proofs.UnderWay.Piles.{frames}
+use Rattle.hare_nesting.proofs.UnderWay.Stacks.{frames}
 use Rattle.hare_nesting.proofs.Telling.Claims.{seen_step}
 use Rattle.hare_nesting.proofs.UnderWay.SeenSteps.{steps_are_seen}
 use Rattle.hare_nesting.proofs.Telling.Reaches.{Reaches, reaches_none, reaches_more, stays, goes_onward}

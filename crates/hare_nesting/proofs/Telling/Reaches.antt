@@ -9,7 +9,7 @@ use Rattle.hare_prefixes.proofs.Completion.Endings.{good}
 use Rattle.hare_prefixes.proofs.Completion.Good.{step_good, class_proper}
 use Rattle.hare_nesting.specs.Gauge.{Gauged, Seen, seen_in, with_faults, nodes_in, found, gauge}
 use Rattle.hare_nesting.specs.Gauge as gauges
-use Rattle.hare_nesting.proofs.UnderWay.Piles.{frames}
+use Rattle.hare_nesting.proofs.UnderWay.Stacks.{frames}
 use Rattle.hare_nesting.proofs.Telling.Claims.{seen_step}
 use Rattle.hare_nesting.proofs.UnderWay.SeenSteps.{steps_are_seen}
 

@@ -8,7 +8,7 @@ use Rattle.hare_automaton.specs.Classes.{class_of}
 use Rattle.hare_automaton.specs.Engine.{Group, Step, Goes, Ends, Stuck, step, Outcome, Done, Fails, after, run, bottom}
 use Rattle.hare_prefixes.proofs.Outcomes.Alike.{classes, Alike, alike}
 use Rattle.hare_nesting.specs.Gauge.{nodes_in}
-use Rattle.hare_nesting.proofs.UnderWay.Piles.{frames, pile_faults, Gains, Held}
+use Rattle.hare_nesting.proofs.UnderWay.Stacks.{frames, stack_faults, Gains, Held}
 use Rattle.hare_nesting.proofs.Telling.Claims.{StepsGain, StepsEnd}
 use Rattle.hare_nesting.proofs.UnderWay.Lists.{on_left, gains_after}
 use Rattle.hare_nesting.proofs.Telling.Reaches.{Reaches, parts, reaches_once, run_reaches}
@@ -79,9 +79,9 @@ pub record Whole (st : List Symbol) (u : List Token) (made : List Group) : Type 
   pub trees : List Group
   pub told : List ℕ
   pub reaches : Reaches 0 u st bottom next trees told
-  pub gains : Gains [] (pile_faults [] made) told
+  pub gains : Gains [] (stack_faults [] made) told
 
-pub whole : StepsGain → StepsEnd → (st : List Symbol) → Held 1 st (frames bottom) → pile_faults (nodes_in st) bottom ≡ [] →
+pub whole : StepsGain → StepsEnd → (st : List Symbol) → Held 1 st (frames bottom) → stack_faults (nodes_in st) bottom ≡ [] →
     (u : List Token) (z : Token) (top : ℕ) (made : List Group) → Ascends 1 (u ++ z ∷ []) top →
     run 0 (u ++ z ∷ []) st bottom ≡ Done (z ∷ []) made → Whole st u made
 whole sg se st h n u z top made a d =
@@ -97,8 +97,8 @@ whole sg se st h n u z top made a d =
       trees = s.trees;
       told = s.told;
       reaches = r;
-      gains = subst (λ l. Gains l (pile_faults [] made) s.told) n
-          (gains_after (pile_faults (nodes_in st) bottom) _ _ s.told g.gains q);
+      gains = subst (λ l. Gains l (stack_faults [] made) s.told) n
+          (gains_after (stack_faults (nodes_in st) bottom) _ _ s.told g.gains q);
     }
 
 -- ---- fronts of what a run uses

@@ -9,7 +9,7 @@ use Rattle.hare_automaton.proofs.Machine.Edges.{true_le, le_true}
 use Rattle.hare_automaton.proofs.Spelled.Paths.{split}
 use Rattle.hare_prefixes.proofs.Outcomes.Breaks.{both}
 use Rattle.hare_nesting.specs.Marks.{Mark, Frame, first_in, mark_as, leaf_mark, last_mark, but_last_mark, put, close, over, lift, let_go, changed}
-use Rattle.hare_nesting.proofs.UnderWay.Piles.{kids_below, frame_below, all_below}
+use Rattle.hare_nesting.proofs.UnderWay.Stacks.{kids_below, frame_below, all_below}
 
 -- a kid that begins in front of the token, where it is a node
 abbrev pub kid_below : ℕ → Mark → Bool

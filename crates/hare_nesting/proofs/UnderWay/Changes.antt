@@ -15,7 +15,7 @@ use Rattle.hare_automaton.proofs.Machine.Edges.{true_le}
 use Rattle.hare_automaton.proofs.Spelled.Paths.{split}
 use Rattle.hare_nesting.specs.Marks.{Mark, first_in}
 use Rattle.hare_nesting.specs.Gauge.{opened}
-use Rattle.hare_nesting.proofs.UnderWay.Piles.{mark, frame_of, frames, own_faults, faults_of, first_faults, group_faults, pile_faults, Gains, fits, is_empty, is_ordered, frame_below, kids_below}
+use Rattle.hare_nesting.proofs.UnderWay.Stacks.{mark, frame_of, frames, own_faults, faults_of, first_faults, group_faults, stack_faults, Gains, fits, is_empty, is_ordered, frame_below, kids_below}
 use Rattle.hare_nesting.proofs.UnderWay.Lists.{gains_refl, gains_in_front, gains_moved}
 use Rattle.hare_nesting.proofs.UnderWay.Seen.{marks_listed}
 use Rattle.hare_nesting.proofs.UnderWay.Grown.{is_behind, behind_plain, behind_later, top_grown}
@@ -27,23 +27,23 @@ unfolding faults_of
 leaf_faults o h = append-nil _ ∙ append-nil _
 
 pub absent_gains : (bs : List Bool) (f : ℕ) (gs : List Group) → fits bs (frames gs) →
-    Gains (pile_faults bs gs) (pile_faults bs (add (bare_leaf ki.None (start_of f)) gs)) []
-absent_gains bs f [] i = gains_refl (pile_faults bs [])
+    Gains (stack_faults bs gs) (stack_faults bs (add (bare_leaf ki.None (start_of f)) gs)) []
+absent_gains bs f [] i = gains_refl (stack_faults bs [])
 absent_gains bs f (g ∷ gs) i =
     let t = bare_leaf ki.None (start_of f) in
-    subst (λ l. Gains (pile_faults bs (g ∷ gs)) (pile_faults bs (add t (g ∷ gs))) l)
+    subst (λ l. Gains (stack_faults bs (g ∷ gs)) (stack_faults bs (add t (g ∷ gs))) l)
     (leaf_faults (opened bs) (head_in ki.None (begun (start_of f) [])))
     (top_grown bs g gs t (behind_plain g.place.line (map mark g.kids) (mark t) refl))
 
 pub leaf_gains : (bs : List Bool) (h : Head) (g : Group) (hs : List Group) → fits bs (frames (g ∷ hs)) →
     frame_below h.place.line (frame_of g) ≡ true →
-    Gains (pile_faults bs (g ∷ hs)) (pile_faults bs (add (branch h none) (g ∷ hs)))
+    Gains (stack_faults bs (g ∷ hs)) (stack_faults bs (add (branch h none) (g ∷ hs)))
     (if is_node h.kind && nat_le 256 (opened bs) then h.place.line ∷ [] else [])
 leaf_gains bs h g hs i e =
     let t = branch h none in
     let later = true_le g.place.line h.place.line
     (split (nat_le g.place.line h.place.line) (kids_below h.place.line (map mark g.kids)) e).0 in
-    subst (λ l. Gains (pile_faults bs (g ∷ hs)) (pile_faults bs (add t (g ∷ hs))) l) (leaf_faults (opened bs) h)
+    subst (λ l. Gains (stack_faults bs (g ∷ hs)) (stack_faults bs (add t (g ∷ hs))) l) (leaf_faults (opened bs) h)
     (top_grown bs g hs t (behind_later g.place.line (map mark g.kids) (mark t) later))
 
 -- ---- trees begun and closed
@@ -53,10 +53,10 @@ unfolding first_faults
 begun_faults b o p = append-nil _ ∙ append-nil _
 
 pub open_gains : (b : Bool) (bs : List Bool) (p : Place) (gs : List Group) → fits bs (frames gs) →
-    Gains (pile_faults bs gs) (pile_faults (b ∷ bs) (begun p [] ∷ gs)) (if b && nat_le 256 (opened bs) then p.line ∷ [] else [])
-unfolding pile_faults
+    Gains (stack_faults bs gs) (stack_faults (b ∷ bs) (begun p [] ∷ gs)) (if b && nat_le 256 (opened bs) then p.line ∷ [] else [])
+unfolding stack_faults
 open_gains b bs p gs i = rw (begun_faults b (opened bs) p)
-    (gains_in_front (if b && nat_le 256 (opened bs) then p.line ∷ [] else []) (pile_faults bs gs))
+    (gains_in_front (if b && nat_le 256 (opened bs) then p.line ∷ [] else []) (stack_faults bs gs))
 
 -- what is passed in a tree that is closed is what was passed in it under way
 pub closed_faults : (k : Kind) (o : ℕ) (g : Group) → faults_of o (branch (head_in k g) (nodes_of g.kids)) ≡ group_faults (is_node k) o g
@@ -78,24 +78,24 @@ closed_behind k g h hs e =
     ordered_behind h.place.line (map mark h.kids) (mark (branch (head_in k g) (nodes_of g.kids))) (rw (marks_listed g.kids) a)
 
 pub close_gains : (k : Kind) (bs : List Bool) (g h : Group) (hs : List Group) → fits (is_node k ∷ bs) (frames (g ∷ h ∷ hs)) →
-    is_ordered (frames (g ∷ h ∷ hs)) ≡ true → Gains (pile_faults (is_node k ∷ bs) (g ∷ h ∷ hs)) (pile_faults bs (close k (g ∷ h ∷ hs))) []
-unfolding pile_faults
+    is_ordered (frames (g ∷ h ∷ hs)) ≡ true → Gains (stack_faults (is_node k ∷ bs) (g ∷ h ∷ hs)) (stack_faults bs (close k (g ∷ h ∷ hs))) []
+unfolding stack_faults
 close_gains k bs g h hs i e =
     let t = branch (head_in k g) (nodes_of g.kids) in
-    gains_moved (pile_faults bs (h ∷ hs)) (pile_faults bs (add t (h ∷ hs))) (group_faults (is_node k) (opened bs) g)
-    (subst (λ l. Gains (pile_faults bs (h ∷ hs)) (pile_faults bs (add t (h ∷ hs))) l) (closed_faults k (opened bs) g)
+    gains_moved (stack_faults bs (h ∷ hs)) (stack_faults bs (add t (h ∷ hs))) (group_faults (is_node k) (opened bs) g)
+    (subst (λ l. Gains (stack_faults bs (h ∷ hs)) (stack_faults bs (add t (h ∷ hs))) l) (closed_faults k (opened bs) g)
     (top_grown bs h hs t (closed_behind k g h hs e)))
 
 -- ---- texts
 
-pub take_same : (t : Token) (bs : List Bool) (gs : List Group) → pile_faults bs (take_text t gs) ≡ pile_faults bs gs
-unfolding pile_faults
+pub take_same : (t : Token) (bs : List Bool) (gs : List Group) → stack_faults bs (take_text t gs) ≡ stack_faults bs gs
+unfolding stack_faults
 take_same t bs [] = refl
 take_same t [] (g ∷ gs) = refl
 take_same t (b ∷ bs) (g ∷ gs) = refl
 
-pub join_same : (t : Token) (bs : List Bool) (gs : List Group) → pile_faults bs (join_text t gs) ≡ pile_faults bs gs
-unfolding pile_faults
+pub join_same : (t : Token) (bs : List Bool) (gs : List Group) → stack_faults bs (join_text t gs) ≡ stack_faults bs gs
+unfolding stack_faults
 join_same t bs [] = refl
 join_same t [] (g ∷ gs) = refl
 join_same t (b ∷ bs) (g ∷ gs) = refl

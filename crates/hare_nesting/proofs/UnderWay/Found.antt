@@ -7,7 +7,7 @@ use Rattle.hare_tree.specs.Grammar.{IsOn}
 use Rattle.hare_automaton.specs.Engine.{Group}
 use Rattle.hare_nesting.specs.Marks.{Mark, lies_before, first_in}
 use Rattle.hare_nesting.specs.Gauge.{opened, found, deep_last, high_operand}
-use Rattle.hare_nesting.proofs.UnderWay.Piles.{mark, marks, frames, left_faults, own_faults, around, faults_of, first_faults, kid_faults, group_faults, pile_faults, fits}
+use Rattle.hare_nesting.proofs.UnderWay.Stacks.{mark, marks, frames, left_faults, own_faults, around, faults_of, first_faults, kid_faults, group_faults, stack_faults, fits}
 use Rattle.hare_nesting.proofs.UnderWay.Lists.{on_left, on_right, on_either}
 
 -- the token at which a node is too deep
@@ -101,11 +101,11 @@ group_found x b o g i =
     (first_faults n o b (nodes_of g.kids)) (kid_deep x b o n g.kids) (high_on x o n ms) i
 
 pub found_holds : (bs : List Bool) (gs : List Group) → fits bs (frames gs) → (x : ℕ) → IsOn x (found bs (frames gs)) →
-    IsOn x (pile_faults bs gs)
-unfolding pile_faults opened
+    IsOn x (stack_faults bs gs)
+unfolding stack_faults opened
 found_holds bs [] e x i = absurd i
 found_holds [] (g ∷ gs) e x i = group_found x false 0 g i
-found_holds (true ∷ bs) (g ∷ gs) e x i = on_left x (group_faults true (opened bs) g) (pile_faults bs gs)
+found_holds (true ∷ bs) (g ∷ gs) e x i = on_left x (group_faults true (opened bs) g) (stack_faults bs gs)
     (group_found x true (opened bs) g i)
-found_holds (false ∷ bs) (g ∷ gs) e x i = on_left x (group_faults false (opened bs) g) (pile_faults bs gs)
+found_holds (false ∷ bs) (g ∷ gs) e x i = on_left x (group_faults false (opened bs) g) (stack_faults bs gs)
     (group_found x false (opened bs) g i)

@@ -7,7 +7,7 @@ use Rattle.hare_automaton.specs.Engine.{Group, with_kids, add}
 use Rattle.hare_automaton.proofs.Machine.Edges.{lt_false}
 use Rattle.hare_nesting.specs.Marks.{Mark, lies_before, first_in}
 use Rattle.hare_nesting.specs.Gauge.{opened}
-use Rattle.hare_nesting.proofs.UnderWay.Piles.{mark, left_faults, own_faults, around, faults_of, first_faults, kid_faults, group_faults, pile_faults, Gains}
+use Rattle.hare_nesting.proofs.UnderWay.Stacks.{mark, left_faults, own_faults, around, faults_of, first_faults, kid_faults, group_faults, stack_faults, Gains}
 use Rattle.hare_nesting.proofs.UnderWay.Lists.{gains_within}
 
 -- where it is put behind these kids of a tree that has its place at `n`, the kid is no left operand
@@ -80,11 +80,11 @@ opened_around true bs = refl
 opened_around false bs = refl
 
 pub top_grown : (bs : List Bool) (g : Group) (gs : List Group) (t : Node) → is_behind g.place.line (map mark g.kids) (mark t) ≡ true →
-    Gains (pile_faults bs (g ∷ gs)) (pile_faults bs (add t (g ∷ gs))) (faults_of (opened bs) t)
-unfolding pile_faults opened
+    Gains (stack_faults bs (g ∷ gs)) (stack_faults bs (add t (g ∷ gs))) (faults_of (opened bs) t)
+unfolding stack_faults opened
 top_grown [] g gs t e = rw (grown false 0 g t e) (by (group_faults false 0 g) (faults_of 0 t))
   where
     by : (a e : List ℕ) → Gains a (a ++ e) e
     by a e = subst (λ l. Gains l (a ++ e) e) (append-nil a) (subst (λ l. Gains (a ++ []) l e) (append-nil (a ++ e)) (gains_within a e []))
 top_grown (b ∷ bs) g gs t e = rw (grown b (opened bs) g t e, ← (opened_around b bs))
-    (gains_within (group_faults b (opened bs) g) (faults_of (around b (opened bs)) t) (pile_faults bs gs))
+    (gains_within (group_faults b (opened bs) g) (faults_of (around b (opened bs)) t) (stack_faults bs gs))

@@ -12,7 +12,7 @@ use Rattle.hare_automaton.proofs.Spelled.Paths.{split}
 use Rattle.hare_prefixes.proofs.Outcomes.Breaks.{both}
 use Rattle.hare_nesting.specs.Marks.{Mark, lies_before, first_in, highest}
 use Rattle.hare_nesting.specs.Gauge.{opened, found, deep_last, high_operand}
-use Rattle.hare_nesting.proofs.UnderWay.Piles.{mark, marks, frames, left_faults, around, faults_of, first_faults, kid_faults, group_faults, pile_faults, Gains, fits, idle}
+use Rattle.hare_nesting.proofs.UnderWay.Stacks.{mark, marks, frames, left_faults, around, faults_of, first_faults, kid_faults, group_faults, stack_faults, Gains, fits, idle}
 use Rattle.hare_nesting.proofs.UnderWay.Lists.{gains_refl, gains_in_front, gains_none, gains_then}
 use Rattle.hare_nesting.proofs.UnderWay.Seen.{marks_listed}
 use Rattle.hare_nesting.proofs.UnderWay.Grown.{behind_plain, top_grown}
@@ -100,29 +100,29 @@ idle_group b o g e =
     ) (append-nil _ ∙ append-nil _)
 
 pub drop_gains : (bs : List Bool) (g h : Group) (hs : List Group) → fits (false ∷ bs) (frames (g ∷ h ∷ hs)) →
-    idle (map mark g.kids) ≡ true → Gains (pile_faults (false ∷ bs) (g ∷ h ∷ hs)) (pile_faults bs (h ∷ hs)) []
-unfolding pile_faults
-drop_gains bs g h hs i e = rw (idle_group false (opened bs) g e) (gains_refl (pile_faults bs (h ∷ hs)))
+    idle (map mark g.kids) ≡ true → Gains (stack_faults (false ∷ bs) (g ∷ h ∷ hs)) (stack_faults bs (h ∷ hs)) []
+unfolding stack_faults
+drop_gains bs g h hs i e = rw (idle_group false (opened bs) g e) (gains_refl (stack_faults bs (h ∷ hs)))
 
 -- idle trees as further kids
 pub top_filled : (bs : List Bool) (h : Group) (hs : List Group) (ts : List Node) → idle (map mark ts) ≡ true →
-    Gains (pile_faults bs (h ∷ hs)) (pile_faults bs (with_kids h (h.kids ++ ts) ∷ hs)) []
-top_filled bs h hs [] e = gains_none (pile_faults bs (h ∷ hs)) (pile_faults bs (with_kids h (h.kids ++ []) ∷ hs))
-    (ap (λ l. pile_faults bs (with_kids h l ∷ hs)) (sym (append-nil h.kids)))
+    Gains (stack_faults bs (h ∷ hs)) (stack_faults bs (with_kids h (h.kids ++ ts) ∷ hs)) []
+top_filled bs h hs [] e = gains_none (stack_faults bs (h ∷ hs)) (stack_faults bs (with_kids h (h.kids ++ []) ∷ hs))
+    (ap (λ l. stack_faults bs (with_kids h l ∷ hs)) (sym (append-nil h.kids)))
 top_filled bs h hs (t ∷ ts) e =
     let p = split ((mark t).height == 0) (idle (map mark ts)) e in
     let low : (mark t).height ≡ 0 = grind (arith, p.0) in
-    let old = pile_faults bs (h ∷ hs) in
-    let middle = pile_faults bs (with_kids h (h.kids ++ t ∷ []) ∷ hs) in
+    let old = stack_faults bs (h ∷ hs) in
+    let middle = stack_faults bs (with_kids h (h.kids ++ t ∷ []) ∷ hs) in
     let one : Gains old middle [] = subst (λ l. Gains old middle l) (idle_faults (opened bs) t low)
     (top_grown bs h hs t (behind_plain h.place.line (map mark h.kids) (mark t) (plain_mark t low))) in
     let rest = top_filled bs (with_kids h (h.kids ++ t ∷ [])) hs ts p.1 in
-    gains_then old middle _ [] one (subst (λ l. Gains middle (pile_faults bs (with_kids h l ∷ hs)) []) (append_assoc h.kids (t ∷ []) ts)
+    gains_then old middle _ [] one (subst (λ l. Gains middle (stack_faults bs (with_kids h l ∷ hs)) []) (append_assoc h.kids (t ∷ []) ts)
     rest)
 
 pub lift_gains : (bs : List Bool) (g h : Group) (hs : List Group) → fits (false ∷ bs) (frames (g ∷ h ∷ hs)) →
-    idle (map mark g.kids) ≡ true → Gains (pile_faults (false ∷ bs) (g ∷ h ∷ hs)) (pile_faults bs (lift (g ∷ h ∷ hs))) []
-lift_gains bs g h hs i e = gains_then _ (pile_faults bs (h ∷ hs)) _ [] (drop_gains bs g h hs i e) (top_filled bs h hs g.kids e)
+    idle (map mark g.kids) ≡ true → Gains (stack_faults (false ∷ bs) (g ∷ h ∷ hs)) (stack_faults bs (lift (g ∷ h ∷ hs))) []
+lift_gains bs g h hs i e = gains_then _ (stack_faults bs (h ∷ hs)) _ [] (drop_gains bs g h hs i e) (top_filled bs h hs g.kids e)
 
 -- ---- a tree that turns out to be a node
 
@@ -146,11 +146,11 @@ operand_plain n (m ∷ []) e = by m.node (split (not m.node) true e).0
 operand_plain n (m ∷ p ∷ ms) e = refl
 
 pub turn_gains : (bs : List Bool) (g : Group) (hs : List Group) → idle (map mark g.kids) ≡ true → fits (false ∷ bs) (frames (g ∷ hs)) →
-    Gains (pile_faults (false ∷ bs) (g ∷ hs)) (pile_faults (true ∷ bs) (g ∷ hs)) (found (true ∷ bs) (frames (g ∷ hs)))
-unfolding pile_faults
+    Gains (stack_faults (false ∷ bs) (g ∷ hs)) (stack_faults (true ∷ bs) (g ∷ hs)) (found (true ∷ bs) (frames (g ∷ hs)))
+unfolding stack_faults
 turn_gains bs g hs e i =
     let p = idle_plain g.kids e in
     let deep = if nat_le 256 (opened bs) then first_in g.place.line (map mark g.kids) ∷ [] else [] in
     let told : found (true ∷ bs) (frames (g ∷ hs)) ≡ deep =
     rw (last_plain (opened (true ∷ bs)) (map mark g.kids) p, operand_plain g.place.line (map mark g.kids) p) (append-nil deep) in
-    rw (idle_group false (opened bs) g e, idle_group true (opened bs) g e, told) (gains_in_front deep (pile_faults bs hs))
+    rw (idle_group false (opened bs) g e, idle_group true (opened bs) g e, told) (gains_in_front deep (stack_faults bs hs))

@@ -7,7 +7,7 @@ use Rattle.hare_tree.specs.Node.{Node}
 use Rattle.hare_automaton.specs.Engine.{Group, lift}
 use Rattle.hare_automaton.proofs.Spelled.Paths.{split}
 use Rattle.hare_nesting.specs.Marks.{Mark, Frame}
-use Rattle.hare_nesting.proofs.UnderWay.Piles.{mark, frames, is_empty, idle}
+use Rattle.hare_nesting.proofs.UnderWay.Stacks.{mark, frames, is_empty, idle}
 use Rattle.hare_nesting.proofs.UnderWay.Seen.{frames_lift}
 use Rattle.hare_nesting.proofs.UnderWay.Below.{drop_below, lift_below}
 use Rattle.hare_nesting.proofs.UnderWay.Orders.{drop_ordered, lifted_ordered}

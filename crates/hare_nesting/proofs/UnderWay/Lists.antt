@@ -1,7 +1,7 @@
 -- What is on lists of numbers, and what one list gains over another.
 use Rattle.std.proofs.Common.{◌≡◌, ℕ, List, [], ◌∷◌, ◌++◌, map, refl, ap, ◌⊎◌, inl, inr, subst}
 use Rattle.hare_tree.specs.Grammar.{IsOn}
-use Rattle.hare_nesting.proofs.UnderWay.Piles.{Gains}
+use Rattle.hare_nesting.proofs.UnderWay.Stacks.{Gains}
 
 -- ---- lists side by side
 

@@ -4,7 +4,7 @@ use Rattle.hare_tree.specs.declared.kind.Kind.{Kind}
 use Rattle.hare_tree.specs.Depth.{is_node}
 use Rattle.hare_prefixes.proofs.Outcomes.Breaks.{both}
 use Rattle.hare_nesting.specs.Marks.{Mark, Frame, mark_as}
-use Rattle.hare_nesting.proofs.UnderWay.Piles.{is_ordered, ends_in_operand}
+use Rattle.hare_nesting.proofs.UnderWay.Stacks.{is_ordered, ends_in_operand}
 use Rattle.hare_nesting.proofs.UnderWay.Grown.{is_behind}
 use Rattle.hare_nesting.proofs.UnderWay.Over.{operand_last}
 use Rattle.hare_nesting.proofs.UnderWay.Orders.{close_behind}

@@ -9,7 +9,7 @@ use Rattle.hare_automaton.proofs.Spelled.Paths.{split}
 use Rattle.hare_prefixes.proofs.Outcomes.Breaks.{both}
 use Rattle.hare_nesting.specs.Marks.{Mark, lies_before}
 use Rattle.hare_nesting.specs.Gauge.{opened, found, deep_last}
-use Rattle.hare_nesting.proofs.UnderWay.Piles.{mark, frame_of, frames, faults_of, first_faults, group_faults, pile_faults, Gains, fits, kids_below, all_below, last_is_node, ends_in_operand}
+use Rattle.hare_nesting.proofs.UnderWay.Stacks.{mark, frame_of, frames, faults_of, first_faults, group_faults, stack_faults, Gains, fits, kids_below, all_below, last_is_node, ends_in_operand}
 use Rattle.hare_nesting.proofs.UnderWay.Lists.{gains_new}
 use Rattle.hare_nesting.proofs.UnderWay.Grown.{is_behind, top_grown}
 use Rattle.hare_nesting.proofs.UnderWay.Below.{top_kids_below}
@@ -77,30 +77,30 @@ operator_faults bs p t gs e i = rw (e, i, one_more (opened bs), append-nil) refl
 -- the last kid is taken out of the tree under way, and is the first of the operator's
 over_last : (bs : List Bool) (p : Place) (g : Group) (hs : List Group) (r : EndsIn g.kids) →
     is_behind g.place.line (map mark r.others) (mark r.last) ≡ true → (mark r.last).node ≡ true → lies_before (mark r.last) p.line ≡ true →
-    Gains (pile_faults bs (g ∷ hs)) (pile_faults (true ∷ bs) (over p (g ∷ hs))) (found (true ∷ bs) (frames (over p (g ∷ hs))))
-unfolding pile_faults
+    Gains (stack_faults bs (g ∷ hs)) (stack_faults (true ∷ bs) (over p (g ∷ hs))) (found (true ∷ bs) (frames (over p (g ∷ hs))))
+unfolding stack_faults
 over_last bs p g hs r e i j =
     let others = with_kids g r.others in
     let t = r.last in
     let old : g ≡ with_kids g (r.others ++ t ∷ []) = ap (with_kids g) r.is in
-    let put : Gains (pile_faults bs (others ∷ hs)) (pile_faults bs (g ∷ hs)) (faults_of (opened bs) t) =
-    subst (λ h. Gains (pile_faults bs (others ∷ hs)) (pile_faults bs (h ∷ hs)) (faults_of (opened bs) t)) (sym old)
+    let put : Gains (stack_faults bs (others ∷ hs)) (stack_faults bs (g ∷ hs)) (faults_of (opened bs) t) =
+    subst (λ h. Gains (stack_faults bs (others ∷ hs)) (stack_faults bs (h ∷ hs)) (faults_of (opened bs) t)) (sym old)
     (top_grown bs others hs t e) in
     let made : over p (g ∷ hs) ≡ begun p (t ∷ []) ∷ others ∷ hs =
     ap (λ l. begun p l ∷ with_kids g (but_last g.kids) ∷ hs) r.last_is ∙ ap (λ l. begun p (t ∷ []) ∷ with_kids g l ∷ hs) r.others_are in
     let told = found (true ∷ bs) (frames (begun p (t ∷ []) ∷ others ∷ hs)) in
-    let new : Gains (pile_faults bs (g ∷ hs)) ((told ++ faults_of (opened bs) t) ++ pile_faults bs (others ∷ hs)) told =
-    gains_new (pile_faults bs (others ∷ hs)) (pile_faults bs (g ∷ hs)) told (faults_of (opened bs) t) put in
-    subst (λ gs. Gains (pile_faults bs (g ∷ hs)) (pile_faults (true ∷ bs) gs) (found (true ∷ bs) (frames gs))) (sym made)
-    (subst (λ l. Gains (pile_faults bs (g ∷ hs)) (l ++ pile_faults bs (others ∷ hs)) told)
+    let new : Gains (stack_faults bs (g ∷ hs)) ((told ++ faults_of (opened bs) t) ++ stack_faults bs (others ∷ hs)) told =
+    gains_new (stack_faults bs (others ∷ hs)) (stack_faults bs (g ∷ hs)) told (faults_of (opened bs) t) put in
+    subst (λ gs. Gains (stack_faults bs (g ∷ hs)) (stack_faults (true ∷ bs) gs) (found (true ∷ bs) (frames gs))) (sym made)
+    (subst (λ l. Gains (stack_faults bs (g ∷ hs)) (l ++ stack_faults bs (others ∷ hs)) told)
     (sym (operator_faults bs p t (others ∷ hs) j i)) new)
 
 pub over_gains : (bs : List Bool) (p : Place) (g : Group) (hs : List Group) → fits bs (frames (g ∷ hs)) →
     ends_in_operand g.place.line (map mark g.kids) ≡ true → all_below p.line (frames (g ∷ hs)) ≡ true →
-    Gains (pile_faults bs (g ∷ hs)) (pile_faults (true ∷ bs) (over p (g ∷ hs))) (found (true ∷ bs) (frames (over p (g ∷ hs))))
+    Gains (stack_faults bs (g ∷ hs)) (stack_faults (true ∷ bs) (over p (g ∷ hs))) (found (true ∷ bs) (frames (over p (g ∷ hs))))
 over_gains bs p g hs i e b = by g.kids refl
   where
-    by : (ts : List Node) → g.kids ≡ ts → Gains (pile_faults bs (g ∷ hs)) (pile_faults (true ∷ bs) (over p (g ∷ hs)))
+    by : (ts : List Node) → g.kids ≡ ts → Gains (stack_faults bs (g ∷ hs)) (stack_faults (true ∷ bs) (over p (g ∷ hs)))
         (found (true ∷ bs) (frames (over p (g ∷ hs))))
     by [] j = let a : ends_in_operand g.place.line (map mark []) ≡ true = (rw j at e) in cc
     by (t ∷ ts) j =

@@ -9,7 +9,7 @@ use Rattle.hare_automaton.specs.Engine.{Group, head_in, with_kids, add, close, l
 use Rattle.hare_automaton.proofs.Machine.Edges.{lt_false}
 use Rattle.hare_automaton.proofs.Spelled.Paths.{split}
 use Rattle.hare_nesting.specs.Gauge.{opened, found, deep_last}
-use Rattle.hare_nesting.proofs.UnderWay.Piles.{mark, frames, faults_of, first_faults, group_faults, pile_faults, Gains, fits, is_empty, is_ordered}
+use Rattle.hare_nesting.proofs.UnderWay.Stacks.{mark, frames, faults_of, first_faults, group_faults, stack_faults, Gains, fits, is_empty, is_ordered}
 use Rattle.hare_nesting.proofs.UnderWay.Lists.{gains_known, gains_moved, gains_within, on_left}
 use Rattle.hare_nesting.proofs.UnderWay.Grown.{is_behind, behind_later, grown, top_grown}
 use Rattle.hare_nesting.proofs.UnderWay.Changes.{leaf_faults, ordered_behind}
@@ -43,30 +43,30 @@ path_behind k g o h hs e i =
 
 bare_path : (bs : List Bool) (g o h : Group) (hs : List Group) → g.place.line ≡ o.place.line →
     is_ordered (frames (bare g ∷ bare o ∷ h ∷ hs)) ≡ true →
-    Gains (pile_faults (true ∷ false ∷ bs) (bare g ∷ bare o ∷ h ∷ hs)) (pile_faults bs (lift (close ki.Path (bare g ∷ bare o ∷ h ∷ hs)))) []
-unfolding pile_faults opened bare
+    Gains (stack_faults (true ∷ false ∷ bs) (bare g ∷ bare o ∷ h ∷ hs)) (stack_faults bs (lift (close ki.Path (bare g ∷ bare o ∷ h ∷ hs)))) []
+unfolding stack_faults opened bare
 bare_path bs g o h hs e i =
     let t = branch (head_in ki.Path g) none in
     let put = top_grown bs h hs t (path_behind ki.Path g o h hs e i) in
     let deep = if nat_le 256 (opened bs) then g.place.line ∷ [] else [] in
-    let seen : Gains (pile_faults bs (h ∷ hs)) (pile_faults bs (add t (h ∷ hs))) deep =
-    subst (λ l. Gains (pile_faults bs (h ∷ hs)) (pile_faults bs (add t (h ∷ hs))) l) (leaf_faults (opened bs) (head_in ki.Path g))
+    let seen : Gains (stack_faults bs (h ∷ hs)) (stack_faults bs (add t (h ∷ hs))) deep =
+    subst (λ l. Gains (stack_faults bs (h ∷ hs)) (stack_faults bs (add t (h ∷ hs))) l) (leaf_faults (opened bs) (head_in ki.Path g))
     put in
     rw (bare_faults true (opened bs) g, bare_faults false (opened bs) o)
-    (gains_moved (pile_faults bs (h ∷ hs)) (pile_faults bs (add t (h ∷ hs))) deep seen)
+    (gains_moved (stack_faults bs (h ∷ hs)) (stack_faults bs (add t (h ∷ hs))) deep seen)
 
 pub path_gains : (bs : List Bool) (g o h : Group) (hs : List Group) → fits (true ∷ false ∷ bs) (frames (g ∷ o ∷ h ∷ hs)) →
     is_empty (map mark g.kids) ≡ true → is_empty (map mark o.kids) ≡ true → g.place.line ≡ o.place.line →
     is_ordered (frames (g ∷ o ∷ h ∷ hs)) ≡ true →
-    Gains (pile_faults (true ∷ false ∷ bs) (g ∷ o ∷ h ∷ hs)) (pile_faults bs (lift (close ki.Path (g ∷ o ∷ h ∷ hs)))) []
+    Gains (stack_faults (true ∷ false ∷ bs) (g ∷ o ∷ h ∷ hs)) (stack_faults bs (lift (close ki.Path (g ∷ o ∷ h ∷ hs)))) []
 path_gains bs g o h hs i a b e d =
     let x = is_bare g a in
     let y = is_bare o b in
     let d' : is_ordered (frames (bare g ∷ bare o ∷ h ∷ hs)) ≡ true =
     subst (λ z. is_ordered (frames (bare g ∷ z ∷ h ∷ hs)) ≡ true) y (subst (λ z. is_ordered (frames (z ∷ o ∷ h ∷ hs)) ≡ true) x d) in
-    let first = subst (λ z. Gains (pile_faults (true ∷ false ∷ bs) (bare g ∷ z ∷ h ∷ hs))
-    (pile_faults bs (lift (close ki.Path (bare g ∷ z ∷ h ∷ hs)))) []) (sym y) (bare_path bs g o h hs e d') in
-    subst (λ z. Gains (pile_faults (true ∷ false ∷ bs) (z ∷ o ∷ h ∷ hs)) (pile_faults bs (lift (close ki.Path (z ∷ o ∷ h ∷ hs)))) [])
+    let first = subst (λ z. Gains (stack_faults (true ∷ false ∷ bs) (bare g ∷ z ∷ h ∷ hs))
+    (stack_faults bs (lift (close ki.Path (bare g ∷ z ∷ h ∷ hs)))) []) (sym y) (bare_path bs g o h hs e d') in
+    subst (λ z. Gains (stack_faults (true ∷ false ∷ bs) (z ∷ o ∷ h ∷ hs)) (stack_faults bs (lift (close ki.Path (z ∷ o ∷ h ∷ hs)))) [])
     (sym x) first
 
 -- ---- the type of a struct literal
@@ -79,15 +79,15 @@ unfolding opened bare deep_last
 bare_found bs g o gs e = rw (lt_false (g.place.line + 1) o.place.line (omega (arith, e)), append-nil) refl
 
 bare_struct : (bs : List Bool) (g o h : Group) (hs : List Group) → g.place.line ≡ o.place.line →
-    Gains (pile_faults (true ∷ false ∷ bs) (bare g ∷ bare o ∷ h ∷ hs))
-    (pile_faults (true ∷ bs) (close ki.TypePath (bare g ∷ bare o ∷ h ∷ hs)))
+    Gains (stack_faults (true ∷ false ∷ bs) (bare g ∷ bare o ∷ h ∷ hs))
+    (stack_faults (true ∷ bs) (close ki.TypePath (bare g ∷ bare o ∷ h ∷ hs)))
     (found (true ∷ bs) (frames (close ki.TypePath (bare g ∷ bare o ∷ h ∷ hs))))
-unfolding pile_faults opened bare
+unfolding stack_faults opened bare
 bare_struct bs g o h hs e =
     let t = branch (head_in ki.TypePath g) none in
     let a = if nat_le 256 (opened bs) then o.place.line ∷ [] else [] in
     let b = if nat_le 256 (suc (opened bs)) then g.place.line ∷ [] else [] in
-    let rest = pile_faults bs (h ∷ hs) in
+    let rest = stack_faults bs (h ∷ hs) in
     let made : group_faults true (opened bs) (with_kids o (t ∷ [])) ≡ a ++ b =
     grown true (opened bs) (bare o) t (behind_later o.place.line [] (mark t) (omega (arith, e))) ∙ ap
     (λ l. l ++ faults_of (suc (opened bs)) t) (bare_faults true (opened bs) o) ∙ ap (λ l. a ++ l)
@@ -101,11 +101,11 @@ bare_struct bs g o h hs e =
 pub struct_gains : (bs : List Bool) (g o h : Group) (hs : List Group) → fits (true ∷ false ∷ bs) (frames (g ∷ o ∷ h ∷ hs)) →
     is_empty (map mark g.kids) ≡ true → is_empty (map mark o.kids) ≡ true → g.place.line ≡ o.place.line →
     is_ordered (frames (g ∷ o ∷ h ∷ hs)) ≡ true →
-    Gains (pile_faults (true ∷ false ∷ bs) (g ∷ o ∷ h ∷ hs)) (pile_faults (true ∷ bs) (close ki.TypePath (g ∷ o ∷ h ∷ hs)))
+    Gains (stack_faults (true ∷ false ∷ bs) (g ∷ o ∷ h ∷ hs)) (stack_faults (true ∷ bs) (close ki.TypePath (g ∷ o ∷ h ∷ hs)))
     (found (true ∷ bs) (frames (close ki.TypePath (g ∷ o ∷ h ∷ hs))))
 struct_gains bs g o h hs i a b e d =
     let x = is_bare g a in
     let y = is_bare o b in
-    let told = λ (z : Group) (w : Group). Gains (pile_faults (true ∷ false ∷ bs) (z ∷ w ∷ h ∷ hs))
-    (pile_faults (true ∷ bs) (close ki.TypePath (z ∷ w ∷ h ∷ hs))) (found (true ∷ bs) (frames (close ki.TypePath (z ∷ w ∷ h ∷ hs)))) in
+    let told = λ (z : Group) (w : Group). Gains (stack_faults (true ∷ false ∷ bs) (z ∷ w ∷ h ∷ hs))
+    (stack_faults (true ∷ bs) (close ki.TypePath (z ∷ w ∷ h ∷ hs))) (found (true ∷ bs) (frames (close ki.TypePath (z ∷ w ∷ h ∷ hs)))) in
     subst (λ z. told z o) (sym x) (subst (λ w. told (bare g) w) (sym y) (bare_struct bs g o h hs e))

@@ -11,7 +11,7 @@ use Rattle.hare_automaton.specs.Engine.{Group, head_in, last_kid, but_last, add}
 use Rattle.hare_automaton.specs.Engine as engine
 use Rattle.hare_nesting.specs.Marks.{Mark, Frame, mark_as, last_mark, but_last_mark, put}
 use Rattle.hare_nesting.specs.Marks as seen
-use Rattle.hare_nesting.proofs.UnderWay.Piles.{mark, marks, frames}
+use Rattle.hare_nesting.proofs.UnderWay.Stacks.{mark, marks, frames}
 
 pub marks_listed : (ts : List Node) → marks (nodes_of ts) ≡ map mark ts
 marks_listed [] = refl

@@ -6,7 +6,7 @@ use Rattle.hare_automaton.specs.Table.{row}
 use Rattle.hare_automaton.specs.Engine.{Group, Goes, wanted, acted, step}
 use Rattle.hare_automaton.specs.Engine as engine
 use Rattle.hare_nesting.specs.Gauge as gauges
-use Rattle.hare_nesting.proofs.UnderWay.Piles.{frames}
+use Rattle.hare_nesting.proofs.UnderWay.Stacks.{frames}
 use Rattle.hare_nesting.proofs.UnderWay.Seen.{frames_close, frames_all_changed}
 use Rattle.hare_nesting.proofs.Telling.Claims.{seen_step, StepsAreSeen}
 

@@ -12,7 +12,7 @@ use Rattle.hare_prefixes.proofs.Joining.Places.{cut}
 use Rattle.hare_prefixes.proofs.Joining.Joined.{head, joined_append}
 use Rattle.hare_prefixes.proofs.Completion.Viable.{end}
 use Rattle.hare_nesting.proofs.Telling.Claims.{seen_step}
-use Rattle.hare_nesting.proofs.UnderWay.Piles.{frames}
+use Rattle.hare_nesting.proofs.UnderWay.Stacks.{frames}
 use Rattle.hare_nesting.proofs.UnderWay.SeenSteps.{steps_are_seen}
 use Rattle.hare_nesting.proofs.OverFiles.Unused.{step_unused}
 use Rattle.hare_ll_table.specs.declared.answer.Answer.{Answer}

@@ -76,7 +76,7 @@ nodes_in_next s st = drop_front (nodes_of_symbol s) (nodes_in st) where
   drop_front [] cs = refl
   drop_front (b ∷ bs) cs = drop_front bs cs
 
--- one more wait on a pile
+-- one more wait on a stack
 pub nodes_pushed : (ws : List Wait) (n : ℕ) (d : Wait) (new one old first : List Bool) → 0 < n → n ≤ length ws → new ≡ one ++ old →
     one ≡ nodes_in (symbols_in (get_or ws (n - 1) d)) →
     old ≡ nodes_in (waited (drop n ws)) ++ first → new ≡ nodes_in (waited (drop (n - 1) ws)) ++ first

@@ -1,17 +1,17 @@
-//! Piles.
+//! Stacks.
 
 ghost use Rattle.std.specs.Prelude.{◌≡◌, List, [], ◌∷◌, length, OnOk, IfSome, IfNone, MatchOption};
 
 use std::alloc::{AllocError, Global};
 use std::marker::Model;
 
-/// A pile, which contracts see as a list with its top first.
+/// A stack, which contracts see as a list with its top first.
 #[derive(Drop)]
-pub struct Pile<T> {
+pub struct Stack<T> {
     items: Vec<T>,
 }
 
-impl<T> Model for Pile<T> {
+impl<T> Model for Stack<T> {
     ghost use Rattle.std.specs.Prelude.{List, reverse};
 
     ghost Value = { List T };
@@ -19,12 +19,12 @@ impl<T> Model for Pile<T> {
     ghost view = { λ a. reverse a.items.items };
 }
 
-impl<T: Drop> Pile<T> {
+impl<T: Drop> Stack<T> {
     /// Nothing.
-    pub fn new(alloc: Global) -> Pile<T>
+    pub fn new(alloc: Global) -> Stack<T>
         ensures { result ≡ [] }
     {
-        Pile {
+        Stack {
             items: Vec::new(alloc),
         }
     }

@@ -1,4 +1,4 @@
--- Where the limits are passed in trees whose places are numbers of tokens, and in piles of trees under way. Here a left operand has as many
+-- Where the limits are passed in trees whose places are numbers of tokens, and in stacks of trees under way. Here a left operand has as many
 -- nodes open round it as its operator, as it has while it is read; that one more is open once its operator is there is told at the
 -- operator.
 use Rattle.std.proofs.Common.{◌≡◌, ℕ, suc, ◌+◌, List, [], ◌∷◌, ◌++◌, Bool, true, false, ◌&&◌, ◌⊎◌, not, map, length}
@@ -67,10 +67,10 @@ abbrev pub group_faults : Bool → ℕ → Group → List ℕ
 group_faults b o g = own_faults b o g.place.line (map mark g.kids) ++ first_faults g.place.line o b (nodes_of g.kids)
 
 -- at all trees under way, of which the list says whether they are nodes
-unfoldable pub pile_faults : List Bool → List Group → List ℕ
-pile_faults bs [] = []
-pile_faults [] (g ∷ gs) = group_faults false 0 g
-pile_faults (b ∷ bs) (g ∷ gs) = group_faults b (opened bs) g ++ pile_faults bs gs
+unfoldable pub stack_faults : List Bool → List Group → List ℕ
+stack_faults bs [] = []
+stack_faults [] (g ∷ gs) = group_faults false 0 g
+stack_faults (b ∷ bs) (g ∷ gs) = group_faults b (opened bs) g ++ stack_faults bs gs
 
 -- what is on one list is on the other, with these and no others
 pub record Gains (old new others : List ℕ) : Type 0 where
@@ -78,7 +78,7 @@ pub record Gains (old new others : List ℕ) : Type 0 where
   pub gained : (x : ℕ) → IsOn x others → IsOn x new
   pub only : (x : ℕ) → IsOn x new → IsOn x old ⊎ IsOn x others
 
--- ---- what holds of all piles that a run comes to
+-- ---- what holds of all stacks that a run comes to
 
 -- there is a tree under way for each symbol that brings one to its end, and one for what is read
 abbrev pub fits : List Bool → List Frame → Type 0

@@ -1,18 +1,18 @@
-//! Piles and spare lists of bytes.
+//! Stacks and spare lists of bytes.
 
-use hare_ll_table::{Pile, Spare};
+use hare_ll_table::{Spare, Stack};
 use std::test::Fail;
 
 #[test]
-fn the_last_item_of_a_pile_is_on_top(rt: HostRuntime) -> Result<(), Fail> {
-    let mut pile = Pile::new(rt.alloc());
-    pile.push(5u8)?;
-    pile.push(7u8)?;
-    assert_eq!(rt; pile.len(), 2);
-    assert_eq!(rt; pile.top().copied(), Some(7));
-    assert_eq!(rt; pile.pop(), Some(7));
-    assert_eq!(rt; pile.pop(), Some(5));
-    assert_eq!(rt; pile.pop(), None);
+fn the_last_item_of_a_stack_is_on_top(rt: HostRuntime) -> Result<(), Fail> {
+    let mut stack = Stack::new(rt.alloc());
+    stack.push(5u8)?;
+    stack.push(7u8)?;
+    assert_eq!(rt; stack.len(), 2);
+    assert_eq!(rt; stack.top().copied(), Some(7));
+    assert_eq!(rt; stack.pop(), Some(7));
+    assert_eq!(rt; stack.pop(), Some(5));
+    assert_eq!(rt; stack.pop(), None);
     Ok(())
 }
 
