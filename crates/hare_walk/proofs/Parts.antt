@@ -1,5 +1,6 @@
 -- Kids of trees that the grammar has, and what is kept of trees that have been judged.
-use Rattle.std.proofs.Common.{◌≡◌, ℕ, zero, suc, ◌+◌, ◌≤◌, Bool, true, false, List, [], ◌∷◌, ◌++◌, map, take, length, Some, Option, refl, ap, sym, ◌∙◌, subst, inl, inr, arith}
+use Rattle.std.proofs.Common.{◌≡◌, ℕ, zero, suc, ◌+◌, ◌≤◌, Bool, true, false, List, [], ◌∷◌, ◌++◌, map, take, length, Some, Option, refl}
+use Rattle.std.proofs.Common.{ap, sym, ◌∙◌, subst, inl, inr, arith}
 use Rattle.std.specs.Prelude.{slice_get, None, ◌&&◌}
 use Rattle.std.proofs.lemmas.List.{map-append}
 use Rattle.hare_tree.specs.declared.kind.Kind.{Kind}

@@ -1,5 +1,6 @@
 -- In a tree that is traced the texts are told that are compared.
-use Rattle.std.proofs.Common.{◌≡◌, ◌≢◌, ◌∙◌, sym, ap, subst, refl, ℕ, ◌≤◌, ◌<◌, ◌+◌, arith, Bool, true, false, not, ◌&&◌, ◌||◌, List, [], ◌∷◌, Option, Some, None, cond}
+use Rattle.std.proofs.Common.{◌≡◌, ◌≢◌, ◌∙◌, sym, ap, subst, refl, ℕ, ◌≤◌, ◌<◌, ◌+◌, arith, Bool, true, false, not, ◌&&◌, ◌||◌, List, []}
+use Rattle.std.proofs.Common.{◌∷◌, Option, Some, None, cond}
 use Rattle.std.specs.Prelude.{◌==◌, length, IsSome, if◌then◌else◌}
 use Rattle.std.proofs.Common.{leb-true, lt-ltb}
 use Rattle.std.proofs.lemmas.Bool.{and_parts}
@@ -30,7 +31,8 @@ use Rattle.hare_typed.specs.Order.{tree_from_front, kid_from_front}
 use Rattle.hare_typed.specs.Given.{given, first_given, second_given, base_row, is_str}
 use Rattle.hare_typed.specs.Constants.{own_kind, is_known}
 use Rattle.hare_typed.specs.ConstantForms.{own_type}
-use Rattle.hare_typed.specs.Constancy.{is_name_of, is_void_row, names_void, is_wrapper, is_constant_kind, is_constant, hides_kids, or_else, first_inconstant, first_inconstant_of}
+use Rattle.hare_typed.specs.Constancy.{is_name_of, is_void_row, names_void, is_wrapper, is_constant_kind, is_constant, hides_kids, or_else}
+use Rattle.hare_typed.specs.Constancy.{first_inconstant, first_inconstant_of}
 use Rattle.hare_typed.specs.Settled.{PlainKind}
 use Rattle.hare_typed.specs.Texts.{text_in, keeps_text, longest, unless_long, text_by, text_of, text_of_kid}
 use Rattle.hare_rules.specs.declared.declared.DeclType.{DeclType}
@@ -188,7 +190,8 @@ two_kids n typed_none p e = absurd cc
 two_kids n (typed_more x typed_none) p e =
     let no = (and_parts (is_shaped (so.Level n) (erase x)) false e).1 in absurd cc
 two_kids n (typed_more x (typed_more y ts)) p e =
-    let rest = (and_parts (is_shaped (so.Level n) (erase x)) (is_shaped (so.Level (n + 1)) (erase y) && are_kids n [] (erase_each ts)) e).1 in (
+    let rest = (and_parts (is_shaped (so.Level n) (erase x))
+    (is_shaped (so.Level (n + 1)) (erase y) && are_kids n [] (erase_each ts)) e).1 in (
       of_level n x p
           ((and_parts (is_shaped (so.Level n) (erase x)) (is_shaped (so.Level (n + 1)) (erase y) && are_kids n [] (erase_each ts)) e).0),
       of_level (n + 1) y (omega arith) ((and_parts (is_shaped (so.Level (n + 1)) (erase y)) (are_kids n [] (erase_each ts)) rest).0),

@@ -8,7 +8,8 @@ use Rattle.hare_tree.specs.Node.{Head, Node, Nodes, branch, none, more, nodes_of
 use Rattle.hare_tree.specs.Forms.{form_of}
 use Rattle.hare_tree.specs.Spell.{spells, spell_all}
 use Rattle.hare_tree.specs.Grammar.{files}
-use Rattle.hare_tree.specs.Depth.{is_node, is_operator, counted, height, greatest_height, left_height, begins, begins_led, first_number, numbers_behind, place_in, node_faults, open_within, deep, deep_each}
+use Rattle.hare_tree.specs.Depth.{is_node, is_operator, counted, height, greatest_height, left_height, begins, begins_led, first_number}
+use Rattle.hare_tree.specs.Depth.{numbers_behind, place_in, node_faults, open_within, deep, deep_each}
 use Rattle.hare_tree.proofs.Low.Limits.{may-stand}
 use Rattle.hare_parse.proofs.Kids.Heights.{high, high_append}
 

@@ -1,5 +1,6 @@
 -- The mark that is found at the front of a text stands there.
-use Rattle.std.proofs.Common.{◌≡◌, ℕ, ◌<◌, ◌≤◌, List, [], ◌∷◌, ◌++◌, Bool, true, false, cond, ◌||◌, eqb, length, get_or, take, drop, refl, sym, arith, subst, inl, take-append-drop, append-nil}
+use Rattle.std.proofs.Common.{◌≡◌, ℕ, ◌<◌, ◌≤◌, List, [], ◌∷◌, ◌++◌, Bool, true, false, cond, ◌||◌, eqb, length, get_or, take, drop, refl}
+use Rattle.std.proofs.Common.{sym, arith, subst, inl, take-append-drop, append-nil}
 use Rattle.std.specs.Char.{is_ascii_digit}
 use Rattle.std.proofs.lemmas.Bool.Decides.{nat_tests}
 use Rattle.hare_tree.specs.declared.token.TokenKind.{TokenKind}

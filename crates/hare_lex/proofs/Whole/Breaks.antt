@@ -1,5 +1,7 @@
 -- The fault that stands at the front of a text is found there.
-use Rattle.std.proofs.Common.{◌≡◌, ℕ, zero, suc, ◌+◌, ◌-◌, ◌<◌, ◌≤◌, ◌^◌, List, [], ◌∷◌, ◌++◌, Option, Some, None, Bool, true, false, cond, ◌||◌, eqb, length, get_or, take, drop, refl, sym, ap, ◌∙◌, arith, subst, inl, inr, length-append, take-append-drop}
+use Rattle.std.proofs.Common.{◌≡◌, ℕ, zero, suc, ◌+◌, ◌-◌, ◌<◌, ◌≤◌, ◌^◌, List, [], ◌∷◌, ◌++◌, Option, Some, None, Bool, true, false, cond}
+use Rattle.std.proofs.Common.{◌||◌, eqb, length, get_or, take, drop, refl, sym, ap, ◌∙◌, arith, subst, inl, inr, length-append}
+use Rattle.std.proofs.Common.{take-append-drop}
 use Rattle.std.proofs.Math.Logic.{⊎_elim}
 use Rattle.std.specs.List.{prefix_len}
 use Rattle.std.specs.Char.{is_ascii_digit}
@@ -28,7 +30,8 @@ use Rattle.hare_lex.specs.Fronts.{token_at}
 use Rattle.hare_lex.proofs.Fronts.Standing.{nowhere, kind_first, first_same, left_out_is_word, word_letter}
 use Rattle.hare_lex.proofs.Sound.Words.{word_of}
 use Rattle.hare_lex.proofs.Whole.Words.{word_same, front_letter, number_same, front_digit, great_front, small_front}
-use Rattle.hare_lex.proofs.Whole.Literals.{string_found, rune_found, open_none, front_string, front_raw, front_rune, front_at_sign, front_other}
+use Rattle.hare_lex.proofs.Whole.Literals.{string_found, rune_found, open_none, front_string, front_raw, front_rune, front_at_sign}
+use Rattle.hare_lex.proofs.Whole.Literals.{front_other}
 
 -- ---- literals
 

@@ -1,5 +1,7 @@
 -- A spelling has one token.
-use Rattle.std.proofs.Common.{◌≡◌, ℕ, suc, ◌+◌, ◌<◌, ◌≤◌, List, [], ◌∷◌, ◌++◌, Some, Bool, true, false, cond, ◌||◌, not, eqb, length, get_or, take, drop, refl, sym, ap, ◌∙◌, arith, subst, ◌⊎◌, append_assoc, append-nil, length-append, one-add, encode_utf8}
+use Rattle.std.proofs.Common.{◌≡◌, ℕ, suc, ◌+◌, ◌<◌, ◌≤◌, List, [], ◌∷◌, ◌++◌, Some, Bool, true, false, cond, ◌||◌, not, eqb, length}
+use Rattle.std.proofs.Common.{get_or, take, drop, refl, sym, ap, ◌∙◌, arith, subst, ◌⊎◌, append_assoc, append-nil, length-append, one-add}
+use Rattle.std.proofs.Common.{encode_utf8}
 use Rattle.std.proofs.Math.Logic.{⊎_elim}
 use Rattle.std.proofs.Math.Seq.{take-length, drop-append_seam}
 use Rattle.std.specs.List.{prefix_len, list_all, AllByRecursion}
@@ -12,7 +14,8 @@ use Rattle.hare_tree.specs.declared.token.TokenKind.TheVariants.{Name, Keyword, 
 use Rattle.hare_tree.specs.declared.token.Suffix.{Suffix}
 use Rattle.hare_tree.specs.Words.{is_letter, is_listed, keywords, suffix_word, Base, Decimal, Hexadecimal, Octal, Binary, radix, base_mark}
 use Rattle.hare_tree.specs.Spelling.{IsSpellingOf, IsNumber, IsEscape, IsPart, spelled, decoded, IsRune, IsQuoted, IsRaw}
-use Rattle.hare_lex.specs.Lexing.{string_text, inner, unescaped, bad_escape, one, longest, suffixes, suffix_named, number_at, number_in, radix_of, mark_len_of}
+use Rattle.hare_lex.specs.Lexing.{string_text, inner, unescaped, bad_escape, one, longest, suffixes, suffix_named, number_at, number_in}
+use Rattle.hare_lex.specs.Lexing.{radix_of, mark_len_of}
 use Rattle.hare_lex.proofs.Fronts.Lists.{and_left, and_right, front_is, behind_is}
 use Rattle.hare_lex.proofs.Fronts.Firsts.{is_other, first_of_kind}
 use Rattle.hare_lex.proofs.Fronts.Longest.{named_suffix, suffix_no_digit, no_suffix_digit, suffix_most, longest_within}

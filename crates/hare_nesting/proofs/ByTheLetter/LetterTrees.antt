@@ -1,5 +1,6 @@
 -- A tree of which the kids pass the limits at the same tokens by the letter and as they are read does so too.
-use Rattle.std.proofs.Common.{◌≡◌, ℕ, suc, ◌+◌, ◌<◌, ◌≤◌, List, [], ◌∷◌, ◌++◌, Bool, true, false, inl, inr, ◌&&◌, not, map, length, refl, ap, sym, ◌∙◌, subst, arith, add-one, if◌then◌else◌}
+use Rattle.std.proofs.Common.{◌≡◌, ℕ, suc, ◌+◌, ◌<◌, ◌≤◌, List, [], ◌∷◌, ◌++◌, Bool, true, false, inl, inr, ◌&&◌, not, map, length, refl}
+use Rattle.std.proofs.Common.{ap, sym, ◌∙◌, subst, arith, add-one, if◌then◌else◌}
 use Rattle.std.specs.Prelude.{◌||◌, ◌==◌, nat_le}
 use Rattle.std.proofs.lemmas.List.{length-append}
 use Rattle.std.proofs.lemmas.Bool.{cases_lt}
@@ -10,7 +11,8 @@ use Rattle.hare_tree.specs.Node.{Head, Node, Nodes, branch, none, more, head}
 use Rattle.hare_tree.specs.Forms.{form_of}
 use Rattle.hare_tree.specs.Spell.{pieces_tokens, spell, spells}
 use Rattle.hare_tree.specs.Shape.{is_none}
-use Rattle.hare_tree.specs.Depth.{is_node, is_operator, counted, height, greatest_height, begins, open_within, deep, deep_each, first_number, numbers_behind}
+use Rattle.hare_tree.specs.Depth.{is_node, is_operator, counted, height, greatest_height, begins, open_within, deep, deep_each}
+use Rattle.hare_tree.specs.Depth.{first_number, numbers_behind}
 use Rattle.hare_tree.specs.Grammar.{place_of}
 use Rattle.hare_automaton.proofs.Machine.Edges.{lt_false, le_true}
 use Rattle.hare_nesting.specs.Marks.{lies_before, first_in, highest}
@@ -18,7 +20,8 @@ use Rattle.hare_nesting.proofs.UnderWay.Stacks.{mark, marks, left_faults, around
 use Rattle.hare_nesting.proofs.Telling.Claims.{Rises}
 use Rattle.hare_nesting.proofs.ByTheLetter.FormKids.{node_some, pieces_some, Operand}
 use Rattle.hare_nesting.proofs.ByTheLetter.OnList.{on, on_append, on_map, same_or}
-use Rattle.hare_nesting.proofs.ByTheLetter.LetterTests.{one_more, more_holds, plain_agrees, plain_left, rejoin, rejoin_left, further, operator_letter, operator_read}
+use Rattle.hare_nesting.proofs.ByTheLetter.LetterTests.{one_more, more_holds, plain_agrees, plain_left, rejoin, rejoin_left, further}
+use Rattle.hare_nesting.proofs.ByTheLetter.LetterTests.{operator_letter, operator_read}
 
 -- the number that stands at a token
 abbrev pub line : List Token → ℕ → ℕ

@@ -1,5 +1,6 @@
 -- The check of rows is closed under what rows are made by.
-use Rattle.std.proofs.Common.{◌≡◌, ℕ, List, [], ◌∷◌, ◌++◌, Bool, true, false, ◌&&◌, ◌||◌, refl, ap, sym, ◌∙◌, subst, if◌then◌else◌, append_assoc}
+use Rattle.std.proofs.Common.{◌≡◌, ℕ, List, [], ◌∷◌, ◌++◌, Bool, true, false, ◌&&◌, ◌||◌, refl, ap, sym, ◌∙◌, subst, if◌then◌else◌}
+use Rattle.std.proofs.Common.{append_assoc}
 use Rattle.std.specs.List.{list_all}
 use Rattle.hare_tree.specs.declared.form.Sign.{Sign}
 use Rattle.hare_automaton.specs.declared.class.Class.{Class}
@@ -13,7 +14,9 @@ use Rattle.hare_automaton.proofs.Spelled.Paths.{split}
 use Rattle.hare_prefixes.proofs.Outcomes.Breaks.{both}
 use Rattle.hare_nesting.specs.Gauge.{nodes_of_symbol, nodes_in}
 use Rattle.hare_nesting.proofs.UnderWay.Stacks.{may_follow, follows}
-use Rattle.hare_nesting.proofs.CheckedRows.Slots.{undone, all_undone, is_quiet, is_loud, is_still, tame, is_put, ends_in, is_plain, is_plain_first, is_twice, is_begun, is_begun_behind, is_named, made_for, hands_on, prepared, same_bools, uses_ok, row_ok, ends_stack, ends_row}
+use Rattle.hare_nesting.proofs.CheckedRows.Slots.{undone, all_undone, is_quiet, is_loud, is_still, tame, is_put, ends_in, is_plain}
+use Rattle.hare_nesting.proofs.CheckedRows.Slots.{is_plain_first, is_twice, is_begun, is_begun_behind, is_named, made_for, hands_on}
+use Rattle.hare_nesting.proofs.CheckedRows.Slots.{prepared, same_bools, uses_ok, row_ok, ends_stack, ends_row}
 
 -- ---- equal lists
 

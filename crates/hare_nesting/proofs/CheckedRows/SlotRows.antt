@@ -19,7 +19,8 @@ use Rattle.hare_automaton.specs.Table.{row}
 use Rattle.hare_nesting.specs.Gauge.{nodes_of_rule, nodes_in}
 use Rattle.hare_nesting.proofs.UnderWay.Stacks.{ends_operand, follows}
 use Rattle.hare_nesting.proofs.CheckedRows.Slots.{is_plain, uses_ok, row_ok, ends_row}
-use Rattle.hare_nesting.proofs.CheckedRows.SlotForms.{same_refl, uses_before, uses_behind, uses_led, uses_row, or_ok, at_ok, ends_append, ends_before}
+use Rattle.hare_nesting.proofs.CheckedRows.SlotForms.{same_refl, uses_before, uses_behind, uses_led, uses_row, or_ok, at_ok, ends_append}
+use Rattle.hare_nesting.proofs.CheckedRows.SlotForms.{ends_before}
 use Rattle.hare_nesting.proofs.CheckedRows.SlotSorts.{type_ok, length_ok, level_ok, word_ok, of_ok}
 
 path_ok : (k : Kind) (c : Class) → row_ok (is_node k ∷ []) (row (ru.PathRest k) c) ≡ true

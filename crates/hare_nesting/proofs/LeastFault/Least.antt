@@ -1,5 +1,6 @@
 -- The least depth fault of a file's tokens is told by the gauge: what is not told is not passed in some tree that goes on.
-use Rattle.std.proofs.Common.{◌≡◌, ℕ, zero, suc, ◌+◌, ◌<◌, ◌≤◌, List, [], ◌∷◌, ◌++◌, ◌⊎◌, inl, inr, length, take, drop, refl, ap, sym, ◌∙◌, subst, arith}
+use Rattle.std.proofs.Common.{◌≡◌, ℕ, zero, suc, ◌+◌, ◌<◌, ◌≤◌, List, [], ◌∷◌, ◌++◌, ◌⊎◌, inl, inr, length, take, drop, refl, ap, sym, ◌∙◌}
+use Rattle.std.proofs.Common.{subst, arith}
 use Rattle.std.proofs.lemmas.Bool.{cases_lt}
 use Rattle.std.proofs.lemmas.List.{length-take-le, take-append-drop}
 use Rattle.hare_tree.specs.declared.token.Token.{Token}
@@ -14,7 +15,8 @@ use Rattle.hare_nesting.proofs.Telling.Reaches.{Reaches, gauge_reaches}
 use Rattle.hare_nesting.proofs.Telling.Gaining.{Ascends}
 use Rattle.hare_nesting.proofs.OverFiles.Numbers.{unplaced_both, plain_lengths, ascends_to, joined_ascends}
 use Rattle.hare_nesting.proofs.OverFiles.Fronts.{IsFront, front_numbered}
-use Rattle.hare_nesting.proofs.OverFiles.Lines.{line_of, line_within, line_before, front_line, front_shorter, front_then, front_short, front_long}
+use Rattle.hare_nesting.proofs.OverFiles.Lines.{line_of, line_within, line_before, front_line, front_shorter, front_then, front_short}
+use Rattle.hare_nesting.proofs.OverFiles.Lines.{front_long}
 use Rattle.hare_nesting.proofs.OverFiles.Languages.{Reread, Reads}
 use Rattle.hare_nesting.proofs.Telling.Runs.{Whole, whole, Through, through}
 use Rattle.hare_nesting.proofs.Telling.Closings.{Closed, closed}

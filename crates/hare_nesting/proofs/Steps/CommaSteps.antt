@@ -142,7 +142,8 @@ last_comma n st (g ∷ h ∷ k ∷ ks) e =
             ready_next s st (frames (lift (both ∷ k ∷ ks))) refl e.following (λ j. cc);
       };
       gains = gains_then (stack_faults (false ∷ false ∷ bs) old) (stack_faults (false ∷ bs) (both ∷ k ∷ ks))
-          (stack_faults bs (lift (both ∷ k ∷ ks))) [] (closes ki.TrailingComma n n (false ∷ bs) old z) (lift_gains bs both k ks y.fitting i);
+          (stack_faults bs (lift (both ∷ k ∷ ks))) [] (closes ki.TrailingComma n n (false ∷ bs) old z)
+          (lift_gains bs both k ks y.fitting i);
     }
   where
     bare : (ts : List Node) → is_empty (map mark ts) ≡ true →

@@ -16,7 +16,8 @@ use Rattle.hare_nesting.specs.Marks.{Frame, leaf_mark, put, close, changed, all_
 use Rattle.hare_nesting.proofs.UnderWay.Stacks.{is_ordered, ends_in_operand, ready_frames, ready}
 use Rattle.hare_nesting.proofs.UnderWay.Grown.{behind_later}
 use Rattle.hare_nesting.proofs.UnderWay.Operands.{put_operand, close_operand}
-use Rattle.hare_nesting.proofs.CheckedRows.Slots.{all_undone, is_quiet, is_loud, is_still, tame, is_operand, is_put, ends_in, is_twice, is_begun, is_begun_behind, is_named, made_for, hands_on, prepared}
+use Rattle.hare_nesting.proofs.CheckedRows.Slots.{all_undone, is_quiet, is_loud, is_still, tame, is_operand, is_put, ends_in, is_twice}
+use Rattle.hare_nesting.proofs.CheckedRows.Slots.{is_begun, is_begun_behind, is_named, made_for, hands_on, prepared}
 use Rattle.hare_nesting.proofs.Steps.Stands.{at_most, Stands, quiet_stands, loud_stands}
 
 -- ---- an operand that is put

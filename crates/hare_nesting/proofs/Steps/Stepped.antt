@@ -23,7 +23,8 @@ use Rattle.hare_nesting.proofs.UnderWay.Lists.{gains_refl, gains_then}
 use Rattle.hare_nesting.proofs.UnderWay.Seen.{frames_close, frames_all_changed}
 use Rattle.hare_nesting.proofs.UnderWay.Changes.{absent_gains}
 use Rattle.hare_nesting.proofs.UnderWay.Found.{found_holds}
-use Rattle.hare_nesting.proofs.CheckedRows.Slots.{all_undone, tame, is_over, is_put, ends_in, is_plain, made_for, hands_on, prepared, same_bools, uses_ok, row_ok, ends_stack, ends_row}
+use Rattle.hare_nesting.proofs.CheckedRows.Slots.{all_undone, tame, is_over, is_put, ends_in, is_plain, made_for, hands_on, prepared}
+use Rattle.hare_nesting.proofs.CheckedRows.Slots.{same_bools, uses_ok, row_ok, ends_stack, ends_row}
 use Rattle.hare_nesting.proofs.CheckedRows.SlotForms.{same_equal, nodes_append, plain_hands, tame_append}
 use Rattle.hare_nesting.proofs.CheckedRows.SlotRows.{rule_ok, rule_ends}
 use Rattle.hare_nesting.proofs.Steps.Stands.{Stands, below_placed, stands_next, absent_stands, close_stands}
@@ -210,7 +211,8 @@ rule_skipped f t c r cs st gs p i h =
 -- a checked row, behind changes that gain nothing
 pub used_stepped : (f : ℕ) (t : Token) (c : Class) (s : Symbol) (os : List Bool) (cs : List Change) (ss st : List Symbol)
     (gs hs : List Group) → hands_on s ≡ false → follows (s ∷ st) ≡ true → uses_ok os (Uses cs ss) ≡ true →
-    (ends_operand s ≡ true → ends_stack cs ss ≡ true) → Gains (stack_faults (nodes_in (s ∷ st)) gs) (stack_faults (os ++ nodes_in st) hs) [] →
+    (ends_operand s ≡ true → ends_stack cs ss ≡ true) →
+    Gains (stack_faults (nodes_in (s ∷ st)) gs) (stack_faults (os ++ nodes_in st) hs) [] →
     Stands t.place.line (suc t.place.line) (os ++ nodes_in st) (frames hs) →
     Stepped t.place.line c (s ∷ st) gs (ss ++ st) (all_changed f t cs hs)
 used_stepped f t c s os cs ss st gs hs p e o ends g z =

@@ -1,5 +1,6 @@
 -- What the changes of a row that passes the check do to the limits that are passed: what is gained is the token, and the gauge finds it.
-use Rattle.std.proofs.Common.{◌≡◌, ℕ, suc, List, [], ◌∷◌, ◌++◌, Bool, true, false, ◌⊎◌, inl, inr, ◌&&◌, not, map, refl, ap, sym, ◌∙◌, subst, arith, if◌then◌else◌}
+use Rattle.std.proofs.Common.{◌≡◌, ℕ, suc, List, [], ◌∷◌, ◌++◌, Bool, true, false, ◌⊎◌, inl, inr, ◌&&◌, not, map, refl, ap, sym, ◌∙◌, subst}
+use Rattle.std.proofs.Common.{arith, if◌then◌else◌}
 use Rattle.std.specs.Prelude.{nat_le}
 use Rattle.std.specs.List.{list_all}
 use Rattle.hare_tree.specs.declared.kind.Kind.{Kind}
@@ -130,7 +131,8 @@ loud_leaf : (h : Head) (bs : List Bool) (gs : List Group) → mark (branch h non
 loud_leaf h bs [] i s = absurd (omega (arith, s.fitting))
 loud_leaf h bs (g ∷ gs) i s =
     let new = add (branch h none) (g ∷ gs) in
-    grows_if h.place.line (is_node h.kind && nat_le 256 (opened bs)) (stack_faults bs (g ∷ gs)) (stack_faults bs new) (found bs (frames new))
+    grows_if h.place.line (is_node h.kind && nat_le 256 (opened bs)) (stack_faults bs (g ∷ gs)) (stack_faults bs new)
+    (found bs (frames new))
     (leaf_gains bs h (g ∷ gs) s.placed s.fitting)
     (λ x j. subst (λ l. IsOn x (found bs l)) (sym (frames_add (branch h none) (g ∷ gs) ∙ ap (λ m. put m (frames (g ∷ gs))) i))
     (leaf_found h.place.line h.kind bs (frame_of g) (frames gs) x j))

@@ -1,5 +1,6 @@
 -- What a run has read is closed: the tree that is made passes limits where the gauge told it, and else only at the tokens that close it.
-use Rattle.std.proofs.Common.{◌≡◌, ℕ, suc, ◌+◌, ◌<◌, ◌≤◌, List, [], ◌∷◌, ◌++◌, true, ◌⊎◌, inl, inr, map, length, refl, ap, sym, ◌∙◌, subst, append_assoc, arith}
+use Rattle.std.proofs.Common.{◌≡◌, ℕ, suc, ◌+◌, ◌<◌, ◌≤◌, List, [], ◌∷◌, ◌++◌, true, ◌⊎◌, inl, inr, map, length, refl, ap, sym, ◌∙◌, subst}
+use Rattle.std.proofs.Common.{append_assoc, arith}
 use Rattle.std.proofs.lemmas.List.{length-append, map-append}
 use Rattle.hare_tree.specs.declared.token.Token.{Token}
 use Rattle.hare_tree.specs.Grammar.{Language, IsOn, unplaced}
@@ -19,7 +20,8 @@ use Rattle.hare_nesting.proofs.Telling.Calm.{closings_are_calm}
 use Rattle.hare_nesting.proofs.Telling.Reaches.{Reaches, run_reaches, reaches_good}
 use Rattle.hare_nesting.proofs.Telling.Halts.{stops_done}
 use Rattle.hare_nesting.proofs.Telling.Gaining.{Ascends, reaches_gained, reaches_calm, lines}
-use Rattle.hare_nesting.proofs.OverFiles.Numbers.{with_number, numbered_append, unplaced_numbered, plain_classes, ascends_to, ascends_append, numbered_ascends}
+use Rattle.hare_nesting.proofs.OverFiles.Numbers.{with_number, numbered_append, unplaced_numbered, plain_classes, ascends_to}
+use Rattle.hare_nesting.proofs.OverFiles.Numbers.{ascends_append, numbered_ascends}
 use Rattle.hare_nesting.proofs.OverFiles.Fronts.{IsFront}
 use Rattle.hare_nesting.proofs.OverFiles.Lines.{line_of, ascends_apart, ascends_first}
 use Rattle.hare_nesting.proofs.Telling.Runs.{last_same, done_like, whole, told_in_front}

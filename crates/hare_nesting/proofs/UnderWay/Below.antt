@@ -8,7 +8,8 @@ use Rattle.hare_automaton.specs.declared.rule.Change.TheVariants as ch
 use Rattle.hare_automaton.proofs.Machine.Edges.{true_le, le_true}
 use Rattle.hare_automaton.proofs.Spelled.Paths.{split}
 use Rattle.hare_prefixes.proofs.Outcomes.Breaks.{both}
-use Rattle.hare_nesting.specs.Marks.{Mark, Frame, first_in, mark_as, leaf_mark, last_mark, but_last_mark, put, close, over, lift, let_go, changed}
+use Rattle.hare_nesting.specs.Marks.{Mark, Frame, first_in, mark_as, leaf_mark, last_mark, but_last_mark, put, close, over, lift, let_go}
+use Rattle.hare_nesting.specs.Marks.{changed}
 use Rattle.hare_nesting.proofs.UnderWay.Stacks.{kids_below, frame_below, all_below}
 
 -- a kid that begins in front of the token, where it is a node

@@ -15,7 +15,8 @@ use Rattle.hare_automaton.proofs.Machine.Edges.{true_le}
 use Rattle.hare_automaton.proofs.Spelled.Paths.{split}
 use Rattle.hare_nesting.specs.Marks.{Mark, first_in}
 use Rattle.hare_nesting.specs.Gauge.{opened}
-use Rattle.hare_nesting.proofs.UnderWay.Stacks.{mark, frame_of, frames, own_faults, faults_of, first_faults, group_faults, stack_faults, Gains, fits, is_empty, is_ordered, frame_below, kids_below}
+use Rattle.hare_nesting.proofs.UnderWay.Stacks.{mark, frame_of, frames, own_faults, faults_of, first_faults, group_faults, stack_faults}
+use Rattle.hare_nesting.proofs.UnderWay.Stacks.{Gains, fits, is_empty, is_ordered, frame_below, kids_below}
 use Rattle.hare_nesting.proofs.UnderWay.Lists.{gains_refl, gains_in_front, gains_moved}
 use Rattle.hare_nesting.proofs.UnderWay.Seen.{marks_listed}
 use Rattle.hare_nesting.proofs.UnderWay.Grown.{is_behind, behind_plain, behind_later, top_grown}

@@ -7,7 +7,8 @@ use Rattle.hare_tree.specs.Grammar.{IsOn}
 use Rattle.hare_automaton.specs.Engine.{Group}
 use Rattle.hare_nesting.specs.Marks.{Mark, lies_before, first_in}
 use Rattle.hare_nesting.specs.Gauge.{opened, found, deep_last, high_operand}
-use Rattle.hare_nesting.proofs.UnderWay.Stacks.{mark, marks, frames, left_faults, own_faults, around, faults_of, first_faults, kid_faults, group_faults, stack_faults, fits}
+use Rattle.hare_nesting.proofs.UnderWay.Stacks.{mark, marks, frames, left_faults, own_faults, around, faults_of, first_faults, kid_faults}
+use Rattle.hare_nesting.proofs.UnderWay.Stacks.{group_faults, stack_faults, fits}
 use Rattle.hare_nesting.proofs.UnderWay.Lists.{on_left, on_right, on_either}
 
 -- the token at which a node is too deep

@@ -1,5 +1,6 @@
 -- A tree under way with one kid more: what it gains is what is passed in the kid, which is no left operand.
-use Rattle.std.proofs.Common.{◌≡◌, ℕ, ◌+◌, ◌≤◌, List, [], ◌∷◌, ◌++◌, Bool, true, false, ◌&&◌, not, map, refl, ap, sym, ◌∙◌, subst, arith, append_assoc}
+use Rattle.std.proofs.Common.{◌≡◌, ℕ, ◌+◌, ◌≤◌, List, [], ◌∷◌, ◌++◌, Bool, true, false, ◌&&◌, not, map, refl, ap, sym, ◌∙◌, subst, arith}
+use Rattle.std.proofs.Common.{append_assoc}
 use Rattle.std.proofs.lemmas.List.{append-nil, map-append}
 use Rattle.std.specs.Prelude.{nat_le, if◌then◌else◌}
 use Rattle.hare_tree.specs.Node.{Node, nodes_of}
@@ -7,7 +8,8 @@ use Rattle.hare_automaton.specs.Engine.{Group, with_kids, add}
 use Rattle.hare_automaton.proofs.Machine.Edges.{lt_false}
 use Rattle.hare_nesting.specs.Marks.{Mark, lies_before, first_in}
 use Rattle.hare_nesting.specs.Gauge.{opened}
-use Rattle.hare_nesting.proofs.UnderWay.Stacks.{mark, left_faults, own_faults, around, faults_of, first_faults, kid_faults, group_faults, stack_faults, Gains}
+use Rattle.hare_nesting.proofs.UnderWay.Stacks.{mark, left_faults, own_faults, around, faults_of, first_faults, kid_faults, group_faults}
+use Rattle.hare_nesting.proofs.UnderWay.Stacks.{stack_faults, Gains}
 use Rattle.hare_nesting.proofs.UnderWay.Lists.{gains_within}
 
 -- where it is put behind these kids of a tree that has its place at `n`, the kid is no left operand

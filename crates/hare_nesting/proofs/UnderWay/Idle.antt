@@ -1,6 +1,7 @@
 -- Trees in which no node is: no limit is passed in them, so they may be let go or lifted, and a tree that has no others may turn out to be
 -- a node.
-use Rattle.std.proofs.Common.{◌≡◌, ℕ, ◌+◌, List, [], ◌∷◌, ◌++◌, Bool, true, false, ◌&&◌, not, map, refl, ap, sym, ◌∙◌, subst, arith, append_assoc, ◌==◌}
+use Rattle.std.proofs.Common.{◌≡◌, ℕ, ◌+◌, List, [], ◌∷◌, ◌++◌, Bool, true, false, ◌&&◌, not, map, refl, ap, sym, ◌∙◌, subst, arith}
+use Rattle.std.proofs.Common.{append_assoc, ◌==◌}
 use Rattle.std.proofs.lemmas.List.{append-nil}
 use Rattle.std.specs.Prelude.{nat_le, if◌then◌else◌}
 use Rattle.std.specs.List.{list_all}
@@ -12,7 +13,8 @@ use Rattle.hare_automaton.proofs.Spelled.Paths.{split}
 use Rattle.hare_prefixes.proofs.Outcomes.Breaks.{both}
 use Rattle.hare_nesting.specs.Marks.{Mark, lies_before, first_in, highest}
 use Rattle.hare_nesting.specs.Gauge.{opened, found, deep_last, high_operand}
-use Rattle.hare_nesting.proofs.UnderWay.Stacks.{mark, marks, frames, left_faults, around, faults_of, first_faults, kid_faults, group_faults, stack_faults, Gains, fits, idle}
+use Rattle.hare_nesting.proofs.UnderWay.Stacks.{mark, marks, frames, left_faults, around, faults_of, first_faults, kid_faults, group_faults}
+use Rattle.hare_nesting.proofs.UnderWay.Stacks.{stack_faults, Gains, fits, idle}
 use Rattle.hare_nesting.proofs.UnderWay.Lists.{gains_refl, gains_in_front, gains_none, gains_then}
 use Rattle.hare_nesting.proofs.UnderWay.Seen.{marks_listed}
 use Rattle.hare_nesting.proofs.UnderWay.Grown.{behind_plain, top_grown}

@@ -9,7 +9,8 @@ use Rattle.hare_automaton.specs.Engine as engine
 use Rattle.hare_automaton.proofs.Machine.Edges.{true_le, le_true}
 use Rattle.hare_automaton.proofs.Spelled.Paths.{split}
 use Rattle.hare_prefixes.proofs.Outcomes.Breaks.{both}
-use Rattle.hare_nesting.specs.Marks.{Mark, Frame, lies_before, first_in, mark_as, leaf_mark, last_mark, but_last_mark, put, close, over, lift, let_go, changed}
+use Rattle.hare_nesting.specs.Marks.{Mark, Frame, lies_before, first_in, mark_as, leaf_mark, last_mark, but_last_mark, put, close, over}
+use Rattle.hare_nesting.specs.Marks.{lift, let_go, changed}
 use Rattle.hare_nesting.proofs.UnderWay.Stacks.{mark, frame_of, frames, idle, is_empty, is_ordered, kids_below, all_below, ends_in_operand}
 use Rattle.hare_nesting.proofs.UnderWay.Seen.{frames_lift}
 use Rattle.hare_nesting.proofs.UnderWay.Grown.{is_behind, behind_plain, first_stays, not_before}

@@ -9,7 +9,8 @@ use Rattle.hare_automaton.proofs.Spelled.Paths.{split}
 use Rattle.hare_prefixes.proofs.Outcomes.Breaks.{both}
 use Rattle.hare_nesting.specs.Marks.{Mark, lies_before}
 use Rattle.hare_nesting.specs.Gauge.{opened, found, deep_last}
-use Rattle.hare_nesting.proofs.UnderWay.Stacks.{mark, frame_of, frames, faults_of, first_faults, group_faults, stack_faults, Gains, fits, kids_below, all_below, last_is_node, ends_in_operand}
+use Rattle.hare_nesting.proofs.UnderWay.Stacks.{mark, frame_of, frames, faults_of, first_faults, group_faults, stack_faults, Gains, fits}
+use Rattle.hare_nesting.proofs.UnderWay.Stacks.{kids_below, all_below, last_is_node, ends_in_operand}
 use Rattle.hare_nesting.proofs.UnderWay.Lists.{gains_new}
 use Rattle.hare_nesting.proofs.UnderWay.Grown.{is_behind, top_grown}
 use Rattle.hare_nesting.proofs.UnderWay.Below.{top_kids_below}

@@ -9,7 +9,8 @@ use Rattle.hare_automaton.specs.Engine.{Group, head_in, with_kids, add, close, l
 use Rattle.hare_automaton.proofs.Machine.Edges.{lt_false}
 use Rattle.hare_automaton.proofs.Spelled.Paths.{split}
 use Rattle.hare_nesting.specs.Gauge.{opened, found, deep_last}
-use Rattle.hare_nesting.proofs.UnderWay.Stacks.{mark, frames, faults_of, first_faults, group_faults, stack_faults, Gains, fits, is_empty, is_ordered}
+use Rattle.hare_nesting.proofs.UnderWay.Stacks.{mark, frames, faults_of, first_faults, group_faults, stack_faults, Gains, fits, is_empty}
+use Rattle.hare_nesting.proofs.UnderWay.Stacks.{is_ordered}
 use Rattle.hare_nesting.proofs.UnderWay.Lists.{gains_known, gains_moved, gains_within, on_left}
 use Rattle.hare_nesting.proofs.UnderWay.Grown.{is_behind, behind_later, grown, top_grown}
 use Rattle.hare_nesting.proofs.UnderWay.Changes.{leaf_faults, ordered_behind}
@@ -43,7 +44,8 @@ path_behind k g o h hs e i =
 
 bare_path : (bs : List Bool) (g o h : Group) (hs : List Group) → g.place.line ≡ o.place.line →
     is_ordered (frames (bare g ∷ bare o ∷ h ∷ hs)) ≡ true →
-    Gains (stack_faults (true ∷ false ∷ bs) (bare g ∷ bare o ∷ h ∷ hs)) (stack_faults bs (lift (close ki.Path (bare g ∷ bare o ∷ h ∷ hs)))) []
+    Gains (stack_faults (true ∷ false ∷ bs) (bare g ∷ bare o ∷ h ∷ hs))
+    (stack_faults bs (lift (close ki.Path (bare g ∷ bare o ∷ h ∷ hs)))) []
 unfolding stack_faults opened bare
 bare_path bs g o h hs e i =
     let t = branch (head_in ki.Path g) none in

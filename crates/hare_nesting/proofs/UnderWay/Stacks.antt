@@ -1,5 +1,5 @@
--- Where the limits are passed in trees whose places are numbers of tokens, and in stacks of trees under way. Here a left operand has as many
--- nodes open round it as its operator, as it has while it is read; that one more is open once its operator is there is told at the
+-- Where the limits are passed in trees whose places are numbers of tokens, and in stacks of trees under way. Here a left operand has as
+-- many nodes open round it as its operator, as it has while it is read; that one more is open once its operator is there is told at the
 -- operator.
 use Rattle.std.proofs.Common.{◌≡◌, ℕ, suc, ◌+◌, List, [], ◌∷◌, ◌++◌, Bool, true, false, ◌&&◌, ◌⊎◌, not, map, length}
 use Rattle.std.specs.Prelude.{nat_le, ◌==◌, if◌then◌else◌}

@@ -1,5 +1,6 @@
 -- The comments and blanks in front of a token, one after the other.
-use Rattle.std.proofs.Common.{◌≡◌, ℕ, ◌+◌, ◌≤◌, List, [], ◌∷◌, ◌++◌, Bool, true, false, Some, cond, length, take, drop, refl, sym, ap, ◌∙◌, subst, arith, inr, append_assoc, append-nil, take-append-drop, add-zero}
+use Rattle.std.proofs.Common.{◌≡◌, ℕ, ◌+◌, ◌≤◌, List, [], ◌∷◌, ◌++◌, Bool, true, false, Some, cond, length, take, drop, refl, sym, ap, ◌∙◌}
+use Rattle.std.proofs.Common.{subst, arith, inr, append_assoc, append-nil, take-append-drop, add-zero}
 use Rattle.std.proofs.lemmas.List.{drop-drop}
 use Rattle.std.specs.List.{list_all}
 use Rattle.hare_tree.specs.Words.{is_blank}

@@ -3,7 +3,8 @@ use Rattle.std.proofs.Common.{◌≡◌, ℕ, List, [], ◌∷◌, min, Bool, tr
 use Rattle.std.specs.Prelude.{nat_le, if◌then◌else◌, ◌&&◌, Some, None}
 use Rattle.hare_automaton.specs.declared.rule.Symbol.{Symbol}
 use Rattle.hare_nesting.specs.Marks.{Mark, Frame, lies_before}
-use Rattle.hare_nesting.specs.Gauge.{opened, deep_frame, deep_last, high_operand, found, Step, Goes, Ends, Stuck, step, Seen, Gauged, with_faults, after, gauge, nodes_in}
+use Rattle.hare_nesting.specs.Gauge.{opened, deep_frame, deep_last, high_operand, found, Step, Goes, Ends, Stuck, step, Seen, Gauged}
+use Rattle.hare_nesting.specs.Gauge.{with_faults, after, gauge, nodes_in}
 use Rattle.hare_ll_table.specs.declared.answer.Answer.TheVariants as an
 use Rattle.hare_recogniser.specs.Capped.{cap_marks, cap_frame, capped, capped_step}
 use Rattle.hare_recogniser.specs.Gauged.{Answers}

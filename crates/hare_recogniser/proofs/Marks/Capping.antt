@@ -5,7 +5,8 @@ use Rattle.hare_tree.specs.declared.kind.Kind.{Kind}
 use Rattle.hare_automaton.specs.declared.rule.Change.{Change}
 use Rattle.hare_automaton.specs.declared.rule.Change.TheVariants as ch
 use Rattle.hare_tree.specs.Depth.{counted}
-use Rattle.hare_nesting.specs.Marks.{Mark, Frame, first_in, highest, mark_as, last_mark, but_last_mark, put, close, over, lift, changed, all_changed}
+use Rattle.hare_nesting.specs.Marks.{Mark, Frame, first_in, highest, mark_as, last_mark, but_last_mark, put, close, over, lift, changed}
+use Rattle.hare_nesting.specs.Marks.{all_changed}
 use Rattle.hare_recogniser.specs.Capped.{cap_mark, cap_marks, cap_frame, capped}
 
 -- ---- marks

@@ -1,5 +1,6 @@
 -- The numbers of tokens that a run of the gauge tells are among those that it has seen.
-use Rattle.std.proofs.Common.{◌≡◌, ℕ, suc, ◌+◌, ◌<◌, ◌≤◌, List, [], ◌∷◌, ◌++◌, map, length, Bool, true, false, sym, ap, ◌∙◌, arith, drop, length-drop, Option}
+use Rattle.std.proofs.Common.{◌≡◌, ℕ, suc, ◌+◌, ◌<◌, ◌≤◌, List, [], ◌∷◌, ◌++◌, map, length, Bool, true, false, sym, ap, ◌∙◌, arith, drop}
+use Rattle.std.proofs.Common.{length-drop, Option}
 use Rattle.std.specs.Prelude.{nat_le, if◌then◌else◌, ◌&&◌, Some}
 use Rattle.std.specs.List.{AllByRecursion}
 use Rattle.hare_tree.specs.declared.kind.Kind.{Kind}
@@ -13,8 +14,10 @@ use Rattle.hare_automaton.specs.Rows.{Row, Fault, Skips, Uses, has_sign}
 use Rattle.hare_automaton.specs.Table.{row}
 use Rattle.hare_tree.specs.Grammar.{is_proper_string, joined_to, joined}
 use Rattle.hare_prefixes.proofs.Joining.Used.{merged}
-use Rattle.hare_nesting.specs.Marks.{Mark, Frame, lies_before, first_in, mark_as, last_mark, but_last_mark, put, close, over, lift, changed, all_changed}
-use Rattle.hare_nesting.specs.Gauge.{opened, nodes_in, deep_frame, deep_last, high_operand, found, Step, Goes, Ends, Stuck, wanted, acted, step, Seen, Gauged, after, gauge, start, numbered, seen_in, seen}
+use Rattle.hare_nesting.specs.Marks.{Mark, Frame, lies_before, first_in, mark_as, last_mark, but_last_mark, put, close, over, lift, changed}
+use Rattle.hare_nesting.specs.Marks.{all_changed}
+use Rattle.hare_nesting.specs.Gauge.{opened, nodes_in, deep_frame, deep_last, high_operand, found, Step, Goes, Ends, Stuck, wanted, acted}
+use Rattle.hare_nesting.specs.Gauge.{step, Seen, Gauged, after, gauge, start, numbered, seen_in, seen}
 use Rattle.hare_recogniser.specs.Gauged.{gauged_from, seen_from}
 use Rattle.hare_recogniser.specs.Least.{least}
 use Rattle.hare_recogniser.proofs.Told.Least.{least_within}

@@ -5,7 +5,8 @@ use Rattle.hare_tree.proofs.Sizes.Kids.{kid_size}
 use Rattle.hare_tree.proofs.TreeKids.KidsFrom.{nodes_from-get, nodes_from-past}
 use Rattle.hare_directory.specs.Seen.{tables_of}
 use Rattle.hare_names.specs.Scopes.{bindings_in, bindings_among, bound_by, bound_among, bound_itself}
-use Rattle.hare_names.proofs.WalkLemmas.{walking-on, walking-past, walking-done, walking-room, back, one-kid, two-kids, counted-one, counted-two, loop-one, loop-two}
+use Rattle.hare_names.proofs.WalkLemmas.{walking-on, walking-past, walking-done, walking-room, back, one-kid, two-kids, counted-one}
+use Rattle.hare_names.proofs.WalkLemmas.{counted-two, loop-one, loop-two}
 use Rattle.hare_names.proofs.DoubledLemmas.{among-on, among-done, doubled-idle, doubled-one, doubled-two}
 use Rattle.hare_names.proofs.walk.+walk.Goals as goal
 

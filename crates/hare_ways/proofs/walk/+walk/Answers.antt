@@ -19,7 +19,8 @@ use Rattle.hare_ways.proofs.Counted.{trees_have_ways}
 use Rattle.hare_ways.proofs.Walked.{tree-walk}
 use Rattle.hare_ways.proofs.FormSteps.{drop-at}
 use Rattle.hare_ways.proofs.KidLemmas.{nodes_from-next}
-use Rattle.hare_ways.proofs.Puts.{IsPut, put-many, walk-next, walk-room, put-deeper, put-within, length-put, before-alone, behind-alone, sign-is, own-is, one-is, all-is, listed-is, depth-fits, never-inside}
+use Rattle.hare_ways.proofs.Puts.{IsPut, put-many, walk-next, walk-room, put-deeper, put-within, length-put, before-alone, behind-alone}
+use Rattle.hare_ways.proofs.Puts.{sign-is, own-is, one-is, all-is, listed-is, depth-fits, never-inside}
 use Rattle.hare_ways.proofs.RowPuts as row
 use Rattle.hare_ways.proofs.LedPuts as led
 use Rattle.hare_ways.proofs.walk.+walk.Goals as goal
