@@ -1,10 +1,9 @@
 -- The cells of addresses and of slices.
-use Rattle.std.proofs.Common.{◌≡◌, ◌∙◌, sym, ap, ℕ, zero, suc, ◌+◌, ◌%◌, ◌^◌, ◌<◌, ◌≤◌, arith, List, [], ◌∷◌, ◌++◌}
+use Rattle.std.proofs.Common.{◌≡◌, ◌∙◌, sym, ap, ℕ, ◌+◌, ◌%◌, ◌^◌, ◌<◌, List, [], ◌++◌}
 use Rattle.std.proofs.Math.Nat.{mod-eq_of_lt}
 use Rattle.hx_base.specs.Memory.{le_bytes}
 use Rattle.hare_typed.specs.declared.cell.Cell.{Cell}
-use Rattle.hare_typed.specs.declared.cell.Cell.TheVariants as cell
-use Rattle.hare_typed.specs.Cells.{byte_cells, fragments}
+use Rattle.hare_typed.specs.Cells.{byte_cells}
 use Rattle.hare_typed.specs.Scalars.{Nullable, Pointing, Address, cells}
 use Rattle.hare_typed.specs.Words.{three, size_cells}
 

@@ -1,6 +1,5 @@
 -- Trees whose constants can be told, and are in each later store the same.
 use Rattle.std.specs.Prelude.{◌≡◌, ℕ, Bool, false, is_some}
-use Rattle.hare_types.specs.declared.coercion.Ty.TheVariants as kept
 use Rattle.hare_types.specs.Store.{Store}
 use Rattle.hare_types.specs.Sound.{IsStore}
 use Rattle.hare_types.specs.Later.{IsLater}

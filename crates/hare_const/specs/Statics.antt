@@ -1,6 +1,5 @@
 -- The objects to which a constant may lead: those of strings and of constants that stand in its tree, and those that its evaluation makes.
 use Rattle.std.specs.Prelude.{◌≡◌, ℕ, zero, suc, List, [], ◌∷◌, ◌++◌, flat_map, Contains, Option, Some, None, unwrap_or}
-use Rattle.hare_tree.specs.declared.kind.Kind.TheVariants as kind
 use Rattle.hare_types.specs.Store.{Store}
 use Rattle.hare_types.specs.Unions.{put_all}
 use Rattle.hare_typed.specs.declared.cell.Cell.{Cell}

@@ -1,12 +1,8 @@
 //! Operators on numbers and bools.
 
 ghost use Rattle.std.specs.Prelude.{◌≡◌, false, IfOk};
-ghost use Rattle.hare_types.specs.declared.coercion.Ty.TheVariants as ty;
-ghost use Rattle.hare_typed.specs.Arithmetic as arithmetic;
 ghost use Rattle.hare_typed.specs.Shapes as shapes;
-ghost use Rattle.hare_typed.specs.Coercions.{number_of_value as number_of_cells, number_cells as cells_of_number};
 ghost use Rattle.hare_typed.specs.ConstantForms.{is_iconst, truth as holds, type_of_kid as kid_type};
-ghost use Rattle.hare_typed.specs.Settled.{IsWidth};
 ghost use Rattle.hare_const.specs.Operators.{int_of, IsWhole};
 ghost use Rattle.hare_const.specs.NodeValues as spec;
 ghost use Rattle.hare_typed.specs.Settled as asked;

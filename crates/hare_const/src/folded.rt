@@ -54,10 +54,11 @@ fn cells_and_objects(
 /// that is no constant or whose evaluation would abort, also where it would not run. `None` where the evaluation meets an undefined act,
 /// which it does in no tree that was checked.
 ///
-/// Nothing is asked of the tree: where it tells too little, which `is_settled` tests, the answer is want of memory, as that of `constant`
-/// is. In a union the tag of a type is one more than its id. Each node is evaluated once, and the call goes as deep in the host as the tree
-/// is. The parts of a tuple take the memory of their own cells, and so do the fields of a struct, in whatever order they are written. The
-/// declaration's number `own` is below 2^32 - 1.
+/// Nothing is asked of the tree: where it tells too little, which `is_settled` and `is_coherent` test, the answer is want of memory, as that
+/// of `constant` is. In a union the tag of a type is one more than its id. Each node is evaluated once, and the call goes as deep in the
+/// host as the tree is. The parts of a tuple take the memory of their own cells, and so do the fields of a struct, in whatever order they are
+/// written. The time is that of the tree and of the cells; each comparison of texts takes that of their bytes. The declaration's number
+/// `own` is below 2^32 - 1.
 pub fn constant_cells(
     alloc: Global,
     s: &TypeStore,
@@ -88,7 +89,8 @@ pub fn constant_cells(
 /// objects, where two parts of a struct have one place, and where cells that a def gave are none of the text or union that is made of them,
 /// as in no tree that was checked.
 /// In a union the tag of a type is one more than its id. The declaration's number `own` is below 2^32 - 1. Each node is evaluated once, and
-/// the call goes as deep in the host as the tree is. The time is that of the tree and of the cells, and n log n in the objects.
+/// the call goes as deep in the host as the tree is. The time is that of the tree and of the cells, and n log n in the objects; each
+/// comparison of texts takes that of their bytes.
 pub fn const_eval(alloc: Global, s: &TypeStore, own: u32, t: &Typed) -> Result<Const, Stop<Fault>>
     requires own { own < 2 ^ 32 - 1 }
     requires settled { IsSettled s.now t.now }
@@ -122,7 +124,8 @@ pub fn const_eval(alloc: Global, s: &TypeStore, own: u32, t: &Typed) -> Result<C
 /// there are more of these than there are objects; and of a tree that compares texts where objects with one number have other cells, or
 /// where both are constants and one is no string and no name of a def, in parentheses or not, cast to a text or not. The tag of a type in a
 /// union is one more than its id, in each store. The declaration's number `own` is below 2^32 - 1. The time is that of the tree and of the
-/// cells, and n log n in the objects; where texts are compared, that of what the objects keep of their cells too.
+/// cells, and n log n in the objects; in a tree that compares texts, each string and each path to a def takes that of the cells which its
+/// objects keep.
 pub fn constant(alloc: Global, s: &TypeStore, own: u32, t: &Typed) -> Result<Const, AllocError>
     requires own { own < 2 ^ 32 - 1 }
     ensures { IfOk result (λ c. (l : Store) → IsLater s.now l → c ≡ folded l own t.now) }

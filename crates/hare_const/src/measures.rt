@@ -1,6 +1,6 @@
 //! Sizes, alignments and lengths.
 
-ghost use Rattle.std.specs.Prelude.{◌≡◌, [], ◌∷◌, IfOk, IsTrue};
+ghost use Rattle.std.specs.Prelude.{◌≡◌, [], ◌∷◌, IfOk};
 ghost use Rattle.hare_typed.specs.Followed as follow;
 ghost use Rattle.hare_typed.specs.Given.{size_in as size_of_type, base_row as row_of_base, pointee};
 ghost use Rattle.hare_typed.specs.Shapes.{align_in as align_of_type};

@@ -3,7 +3,6 @@
 ghost use Rattle.std.specs.Prelude.{◌≡◌, ◌++◌, ◌-◌, ◌<◌, ◌^◌, IfOk, OnOk};
 ghost use Rattle.hare_typed.specs.Folded.{tagged_by_id};
 ghost use Rattle.hare_typed.specs.Constants.{own_kind};
-ghost use Rattle.hare_typed.specs.Evaluated.{is_evaluated as evaluated};
 ghost use Rattle.hare_const.specs.declared.outcome.Outcome.TheVariants.{Known};
 ghost use Rattle.hare_const.specs.NodeValues as spec;
 ghost use Rattle.hare_typed.specs.Settled as asked;

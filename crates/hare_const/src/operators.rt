@@ -1,6 +1,6 @@
 //! Operators on the numbers and the bools of constants.
 
-ghost use Rattle.std.specs.Prelude.{◌≡◌, ◌<◌, ◌≤◌, ◌^◌, ◌*ℤ◌, pos, IfSome};
+ghost use Rattle.std.specs.Prelude.{◌≡◌, ◌<◌, ◌^◌, ◌*ℤ◌};
 ghost use Rattle.hx_base.specs.Numbers.{residue};
 ghost use Rattle.hare_typed.specs.Arithmetic as spec;
 ghost use Rattle.hare_typed.specs.Settled.{IsWidth};

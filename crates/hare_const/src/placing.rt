@@ -4,7 +4,7 @@ ghost use Rattle.std.specs.Prelude.{◌≡◌, ◌≤◌, ◌<◌, ℕ, [], leng
 ghost use Rattle.hare_typed.specs.Cells.{with_cells, undefined_cells};
 ghost use Rattle.hare_const.specs.declared.outcome.Outcome.TheVariants.{Known};
 ghost use Rattle.hare_const.specs.NodeValues.{filled};
-ghost use Rattle.hare_const.specs.Placing.{cells_in, placed, Holds};
+ghost use Rattle.hare_const.specs.Placing.{placed, Holds};
 
 use crate::kids::kid_at;
 use crate::outcome::Outcome;

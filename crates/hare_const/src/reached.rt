@@ -1,6 +1,6 @@
 //! The objects to which cells lead, directly or through others.
 
-ghost use Rattle.std.specs.Prelude.{◌≡◌, ◌∷◌, [], true, slice_get, option_to_list, Contains, IfOk, OnOk};
+ghost use Rattle.std.specs.Prelude.{◌≡◌, ◌∷◌, [], true, slice_get, Contains, IfOk, OnOk};
 ghost use Rattle.std.specs.Ordering.{nat_cmp};
 ghost use Rattle.std.specs.BTreeMap.{get};
 ghost use Rattle.hare_typed.specs.Leads as leading;

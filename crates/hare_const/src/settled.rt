@@ -21,7 +21,7 @@ use crate::measures::{part_with_offset, type_with_offset};
 use crate::parts::part_named;
 use crate::refused::is_refused;
 use crate::shape::{Shape, has_base, is_str, shape_at};
-use crate::sizes::{fits, has_part, part_count};
+use crate::sizes::{fits, has_part};
 use crate::texts::are_texts;
 use hare_tree::Kind;
 use hare_typed::{Typed, TypedKids};
@@ -257,7 +257,8 @@ fn refused_among(s: &TypeStore, kids: &TypedKids) -> Option<bool>
 }
 
 /// Whether the constant of a tree can be told, and rests on no name that is not defined yet. The work of a node is constant, but for the
-/// fields of a struct and the members of a union to which a value goes, and the call goes as deep in the host as the tree is.
+/// fields of a struct, the members of a union to which a value goes, and the bytes of texts that are compared; the call goes as deep in the
+/// host as the tree is.
 pub fn is_settled(s: &TypeStore, t: &Typed) -> bool
     ensures { IsTrue result ↔ spec.IsSettled s.now t.now }
 {

@@ -1,6 +1,6 @@
 //! The bases of types, and the scalar types among them.
 
-ghost use Rattle.std.specs.Prelude.{◌≡◌, ◌≤◌, ◌↔◌, IsTrue, option_copied, option_map, IfSome};
+ghost use Rattle.std.specs.Prelude.{◌≡◌, ◌↔◌, IsTrue, option_copied, option_map, IfSome};
 ghost use Rattle.hare_types.specs.declared.coercion.Ty.TheVariants as ty;
 ghost use Rattle.hare_typed.specs.Given.{base_row, is_str as str_type};
 ghost use Rattle.hare_typed.specs.Shapes as spec;

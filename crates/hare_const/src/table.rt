@@ -1,6 +1,6 @@
 //! The cells of objects by their numbers.
 
-ghost use Rattle.std.specs.Prelude.{◌≡◌, ℕ, option_copied, IfOk};
+ghost use Rattle.std.specs.Prelude.{◌≡◌, ℕ, IfOk};
 ghost use Rattle.std.specs.Ordering.{nat_cmp};
 ghost use Rattle.std.specs.BTreeMap.{get};
 ghost use Rattle.hare_typed.specs.Texts as spec;

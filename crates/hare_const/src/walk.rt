@@ -16,7 +16,7 @@ use crate::taken::is_taken;
 use hare_tree::{Fault, Stop};
 use hare_typed::{Cells, ConstObjects, Typed, TypedKids};
 use hare_types::TypeStore;
-use std::alloc::{AllocError, Global};
+use std::alloc::Global;
 
 /// The number of the fault at what is no constant.
 const NOT_CONSTANT: u8 = 21;
