@@ -23,7 +23,7 @@ use Rattle.hare_above.proofs.ReadyLemmas.{ready_stays}
 use Rattle.hare_find.specs.declared.finding.Finding.{Finding}
 use Rattle.hare_find.specs.Defined.{AreDefinedLocals, AreDefinedYielded}
 use Rattle.hare_find.specs.Settling.{option_in}
-use Rattle.hare_find.proofs.DefinedLemmas.{coated_defined}
+use Rattle.hare_find.proofs.YieldsSeen.DefinedTypes.{coated_defined}
 use Rattle.hare_check.specs.declared.walker.Walker.{Walker}
 use Rattle.hare_check.specs.Keeps.{IsKeptTree}
 use Rattle.hare_check.specs.Nodes.{program_of, above_of, Walks, IsAtNode, IsFindingOf, kids_behind}

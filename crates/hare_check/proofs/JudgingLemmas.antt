@@ -21,7 +21,7 @@ use Rattle.hare_find.specs.declared.finding.Finding.{Finding}
 use Rattle.hare_find.specs.Findings.{IsAtTurn, IsFound, IsFoundAt, IsDefinedFinding}
 use Rattle.hare_find.specs.Looked.{MeansInside}
 use Rattle.hare_find.specs.Settling.{option_in}
-use Rattle.hare_find.proofs.YieldLemmas.{met_inside}
+use Rattle.hare_find.proofs.YieldsSeen.Meant.{met_inside}
 use Rattle.hare_check.specs.declared.walker.Walker.{Walker}
 use Rattle.hare_check.specs.Keeps.{AreKeptTrees}
 use Rattle.hare_check.specs.Nodes.{program_of, above_of, IsTakenAt, IsFindingOf, IsStopOf, kids_behind}

@@ -27,7 +27,7 @@ use Rattle.hare_told.specs.Told.{IsLookedAt, has_judge, told_label}
 use Rattle.hare_walk.specs.Spots.{Spot}
 use Rattle.hare_walk.specs.Walks.{IsStop, AreInHand}
 use Rattle.hare_find.specs.Looked.{MeansLocal, IsKnownAt, IsRefusedBy, IsYield, MeansInside}
-use Rattle.hare_find.proofs.YieldLemmas.{yield-context}
+use Rattle.hare_find.proofs.YieldsSeen.Meant.{yield-context}
 use Rattle.hare_check.specs.declared.walker.Walker.{Walker}
 use Rattle.hare_check.specs.Nodes.{program_of, above_of, IsAtNode, IsStopOf}
 use Rattle.hare_check.specs.Spotted.{AreSpotted}

@@ -20,7 +20,7 @@ use Rattle.hare_walk.proofs.Grows.{later-grown}
 use Rattle.hare_above.specs.Ready.{IsKnown}
 use Rattle.hare_above.specs.Stands.{Stands}
 use Rattle.hare_above.proofs.ReadyLemmas.{ready_stays}
-use Rattle.hare_find.proofs.DefinedLemmas.{locals_stay, yielded_stay}
+use Rattle.hare_find.proofs.YieldsSeen.DefinedTypes.{locals_stay, yielded_stay}
 use Rattle.hare_check.specs.Walking.{AreKnownDecls, IsWalking}
 use Rattle.hare_check.proofs.SpottedLemmas.{spotted-later}
 

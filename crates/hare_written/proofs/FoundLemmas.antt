@@ -38,7 +38,7 @@ use Rattle.hare_find.specs.declared.finding.Finding.{Finding}
 use Rattle.hare_find.specs.Findings.{IsFound, IsFoundAt, IsDefinedFinding}
 use Rattle.hare_find.specs.Lengths.{is_length, IsAtLength}
 use Rattle.hare_find.specs.Plain.{goes_by_kind, IsAtPlain}
-use Rattle.hare_find.proofs.PlainLemmas.{meets_none}
+use Rattle.hare_find.proofs.SettlingNothing.WithoutRows.{meets_none}
 use Rattle.hare_seen.specs.Sizes.{FitsAs, size_row, size_row_by, is_small_at}
 use Rattle.hare_walk.specs.Walks.{IsStop}
 use Rattle.rule_judge.specs.Defined.{IsDefined, IsDefinedTy}

@@ -27,7 +27,7 @@ use Rattle.hare_rules.specs.Settles.{Settled, same, own_coercion, settles_kids, 
 use Rattle.hare_rules.specs.Types.{type_of}
 use Rattle.hare_rules.specs.Values.{value_of, value_by_type, value_as, value_named}
 use Rattle.hare_inference.specs.Inferred.{Fails, found, found_kids, with_kids, with_type, judged, judged_by, typed_or, mark_found}
-use Rattle.hare_find.proofs.FindingLemmas.{none_settled}
+use Rattle.hare_find.proofs.Verdicts.Found.{none_settled}
 use Rattle.hare_seen.specs.Sizes.{size_row_by, IsLargeNode, too_large}
 use Rattle.hare_walk.specs.Walks.{IsStop}
 use Rattle.rule_judge.specs.Defined.{IsDefinedTy}

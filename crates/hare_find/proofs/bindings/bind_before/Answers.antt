@@ -1,4 +1,4 @@
-use Rattle.hare_find.proofs.DefinedLemmas.{locals_stay}
+use Rattle.hare_find.proofs.YieldsSeen.DefinedTypes.{locals_stay}
 use Rattle.hare_find.proofs.bindings.bind_before.Goals as goal
 
 pub returns-clause-locals : goal.returns-clause-locals

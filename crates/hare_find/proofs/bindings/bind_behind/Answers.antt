@@ -3,7 +3,7 @@ use Rattle.std.specs.Prelude.{IfSome}
 use Rattle.hare_flow.specs.declared.seen.Binding.{Binding}
 use Rattle.hare_flow.specs.Seen.{entry_of}
 use Rattle.hare_find.specs.Defined.{IsDefinedEntry}
-use Rattle.hare_find.proofs.DefinedLemmas.{locals_stay}
+use Rattle.hare_find.proofs.YieldsSeen.DefinedTypes.{locals_stay}
 use Rattle.hare_find.proofs.bindings.bind_behind.Goals as goal
 
 pub returns-in-Some-clause-locals : goal.returns-in-Some-clause-locals

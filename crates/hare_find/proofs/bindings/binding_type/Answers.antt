@@ -2,7 +2,7 @@ use Rattle.std.proofs.Common.{sym, ◌∙◌}
 use Rattle.std.proofs.lemmas.Result.{IfOk-weaker}
 use Rattle.hare_rules.specs.Context.{store_of}
 use Rattle.rule_judge.proofs.KidLemmas.{own_defined}
-use Rattle.hare_find.proofs.BindingLemmas.{valued_binding}
+use Rattle.hare_find.proofs.BindingsSeen.Known.{valued_binding}
 use Rattle.hare_find.proofs.bindings.binding_type.Goals as goal
 
 pub default_in-requires : goal.default_in-requires

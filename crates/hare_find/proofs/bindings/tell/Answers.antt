@@ -1,8 +1,8 @@
 use Rattle.std.proofs.Common.{ap, sym, ◌∙◌}
 use Rattle.std.specs.Prelude.{option_copied}
 use Rattle.hare_flow.specs.Seen.{entry_of}
-use Rattle.hare_find.proofs.DefinedLemmas.{local_defined, locals_set}
-use Rattle.hare_find.proofs.BindingLemmas.{told_set, told_past}
+use Rattle.hare_find.proofs.YieldsSeen.DefinedTypes.{local_defined, locals_set}
+use Rattle.hare_find.proofs.BindingsSeen.Known.{told_set, told_past}
 use Rattle.hare_find.proofs.bindings.tell.Goals as goal
 
 pub returns-in-Some-clause-told : goal.returns-in-Some-clause-told

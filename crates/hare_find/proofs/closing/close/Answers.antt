@@ -11,8 +11,8 @@ use Rattle.rule_judge.specs.Defined.{AreDefinedTrees}
 use Rattle.rule_judge.proofs.DefinedLemmas.{trees_stay}
 use Rattle.hare_find.specs.Defined.{AreDefinedYielded}
 use Rattle.hare_find.specs.Settling.{option_in}
-use Rattle.hare_find.proofs.DefinedLemmas.{yielded_stay, settlings_stay, coated_defined}
-use Rattle.hare_find.proofs.ClosingLemmas.{closed, has_kids, later_setting}
+use Rattle.hare_find.proofs.YieldsSeen.DefinedTypes.{yielded_stay, settlings_stay, coated_defined}
+use Rattle.hare_find.proofs.Behind.Closed.{closed, has_kids, later_setting}
 use Rattle.hare_find.proofs.closing.close.Goals as goal
 
 pub returns-clause-seen : goal.returns-clause-seen

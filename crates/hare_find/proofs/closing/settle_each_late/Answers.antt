@@ -1,6 +1,6 @@
 use Rattle.std.proofs.Common.{ap, ◌∙◌, arith}
 use Rattle.hare_rules.specs.Flow.{Flow}
-use Rattle.hare_find.proofs.ClosingLemmas.{late_taken}
+use Rattle.hare_find.proofs.Behind.Closed.{late_taken}
 use Rattle.hare_find.proofs.closing.settle_each_late.Goals as goal
 
 pub loop-i-preserved : goal.loop-i-preserved

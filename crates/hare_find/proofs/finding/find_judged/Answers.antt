@@ -15,11 +15,11 @@ use Rattle.rule_judge.specs.Turns.{context_in, kind_in, yields_in}
 use Rattle.rule_judge.proofs.DefinedLemmas.{ty_stays, coercions_stay}
 use Rattle.hare_find.specs.Findings.{IsAtTurn, AreDefinedSettlings}
 use Rattle.hare_find.specs.Listed.{yields_listed}
-use Rattle.hare_find.proofs.AskedLemmas.{asked-at}
+use Rattle.hare_find.proofs.Asked.AtTurn.{asked-at}
 use Rattle.hare_find.specs.Settling.{option_in}
-use Rattle.hare_find.proofs.NextLemmas.{ready_stays}
-use Rattle.hare_find.proofs.SettledLemmas.{AreSettled, settled_many, settled_defined, listed_defined}
-use Rattle.hare_find.proofs.JudgedLemmas.{found_judged, turned_back}
+use Rattle.hare_find.proofs.Verdicts.Next.{ready_stays}
+use Rattle.hare_find.proofs.Found.Settled.{AreSettled, settled_many, settled_defined, listed_defined}
+use Rattle.hare_find.proofs.Found.Judged.{found_judged, turned_back}
 use Rattle.hare_find.proofs.finding.find_judged.Goals as goal
 
 pub returns-in_err-v-clause-err : goal.returns-in_err-v-clause-err

@@ -6,8 +6,8 @@ use Rattle.hare_told.specs.Settled.{listed_late}
 use Rattle.hare_rules.specs.Settles.{Settled}
 use Rattle.hare_flow.specs.Seen.{given_of}
 use Rattle.hare_find.specs.Late.{settled_in}
-use Rattle.hare_find.proofs.LateLemmas.{none_late}
-use Rattle.hare_find.proofs.ToldLemmas.{taken_all}
+use Rattle.hare_find.proofs.Behind.LateSettled.{none_late}
+use Rattle.hare_find.proofs.YieldsSeen.Told.{taken_all}
 use Rattle.hare_find.proofs.late.late_each.Goals as goal
 
 pub returns-then-from-len : goal.returns-then-from-len

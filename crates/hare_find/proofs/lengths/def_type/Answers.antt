@@ -1,6 +1,6 @@
 use Rattle.std.proofs.Common.{ap, sym, ◌∙◌}
 use Rattle.std.specs.Option.{option_copied}
-use Rattle.hare_find.proofs.LengthLemmas.{def_length, other_length}
+use Rattle.hare_find.proofs.SettlingNothing.ArrayLengths.{def_length, other_length}
 use Rattle.hare_find.proofs.lengths.def_type.Goals as goal
 
 pub returns-in-Def-clause-value : goal.returns-in-Def-clause-value

@@ -5,7 +5,7 @@ use Rattle.hare_types.proofs.LaterLemmas.{later_here, later_trans}
 use Rattle.hare_rules.specs.Judged.{was_hinted}
 use Rattle.rule_judge.specs.Turns.{context_in, yields_in}
 use Rattle.hare_find.specs.Settling.{option_in}
-use Rattle.hare_find.proofs.NextLemmas.{listed_there, listed_unhinted, left_hinted, left_unhinted}
+use Rattle.hare_find.proofs.Verdicts.Next.{listed_there, listed_unhinted, left_hinted, left_unhinted}
 use Rattle.hare_find.proofs.listed.list_next.Goals as goal
 
 pub unreachable-requires : goal.unreachable-requires

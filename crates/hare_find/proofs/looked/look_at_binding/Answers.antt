@@ -3,7 +3,7 @@ use Rattle.std.specs.Prelude.{option_map}
 use Rattle.hare_rules.specs.Context.{Entry, Odd}
 use Rattle.hare_flow.specs.declared.seen.Binding.{Binding}
 use Rattle.hare_flow.specs.Seen.{entry_of}
-use Rattle.hare_find.proofs.LookedLemmas.{odd_refused}
+use Rattle.hare_find.proofs.BindingsSeen.Unknown.{odd_refused}
 use Rattle.hare_find.proofs.looked.look_at_binding.Goals as goal
 
 pub returns-in-Odd-clause-err : goal.returns-in-Odd-clause-err

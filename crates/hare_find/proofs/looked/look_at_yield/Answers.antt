@@ -3,7 +3,7 @@ use Rattle.hare_tree.specs.declared.place.Place.{Place}
 use Rattle.hare_tree.specs.Node.{Node, head}
 use Rattle.hare_rules.specs.Context.{store_of}
 use Rattle.hare_rules.specs.Judged.{IsRefusal}
-use Rattle.hare_find.proofs.YieldLemmas.{there_valued, there_taken, void_refused}
+use Rattle.hare_find.proofs.YieldsSeen.Meant.{there_valued, there_taken, void_refused}
 use Rattle.hare_find.proofs.looked.look_at_yield.Goals as goal
 
 pub returns-then-not-gives_void-clause-value : goal.returns-then-not-gives_void-clause-value

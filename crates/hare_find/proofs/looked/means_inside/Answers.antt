@@ -1,6 +1,6 @@
 use Rattle.std.proofs.Common.{not, ap, ◌∙◌}
 use Rattle.hare_rules.specs.Control.{block_meant}
-use Rattle.hare_find.proofs.YieldLemmas.{meant-told, inside-some, inside-none, or-left, or-right}
+use Rattle.hare_find.proofs.YieldsSeen.Meant.{meant-told, inside-some, inside-none, or-left, or-right}
 use Rattle.hare_find.proofs.looked.means_inside.Goals as goal
 
 pub returns-then-not-inside : goal.returns-then-not-inside

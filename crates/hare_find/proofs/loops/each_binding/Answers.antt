@@ -3,7 +3,7 @@ use Rattle.hare_tree.specs.Node.{Node, head}
 use Rattle.hare_types.proofs.LaterLemmas.{later_trans}
 use Rattle.hare_rules.specs.Context.{Odd}
 use Rattle.rule_judge.proofs.KidLemmas.{own_defined}
-use Rattle.hare_find.proofs.LoopLemmas.{each_odd, each_known}
+use Rattle.hare_find.proofs.BindingsSeen.Loops.{each_odd, each_known}
 use Rattle.hare_find.proofs.loops.each_binding.Goals as goal
 
 pub element-requires : goal.element-requires

@@ -1,7 +1,7 @@
 use Rattle.std.proofs.Common.{ap, ◌∙◌}
 use Rattle.hare_rules.specs.Flow.{is_by_reference}
 use Rattle.rule_judge.proofs.KidLemmas.{front_found}
-use Rattle.hare_find.proofs.LoopLemmas.{reference_there}
+use Rattle.hare_find.proofs.BindingsSeen.Loops.{reference_there}
 use Rattle.hare_find.proofs.loops.is_by_reference.Goals as goal
 
 pub returns-in-Some : goal.returns-in-Some

@@ -2,7 +2,7 @@ use Rattle.std.proofs.Common.{◌≡◌, ◌<◌, ◌≤◌, length, map, refl, 
 use Rattle.std.proofs.lemmas.List.{length-map}
 use Rattle.hare_rules.specs.Flow.{Flow}
 use Rattle.hare_find.specs.Settling.{option_in}
-use Rattle.hare_find.proofs.ListedLemmas.{coated-length, got_option, written_step, coated_step, written_none, coated_all}
+use Rattle.hare_find.proofs.Verdicts.Written.{coated-length, got_option, written_step, coated_step, written_none, coated_all}
 use Rattle.hare_find.proofs.settle.settle.Goals as goal
 
 pub loop-i-preserved : goal.loop-i-preserved

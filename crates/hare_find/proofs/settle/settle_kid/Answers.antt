@@ -3,7 +3,7 @@ use Rattle.hare_types.specs.declared.coercion.Coercion.{Coercion}
 use Rattle.hare_typed.specs.Numbers.{number_of}
 use Rattle.hare_rules.specs.Flow.{Flow}
 use Rattle.hare_find.specs.Settling.{option_in}
-use Rattle.hare_find.proofs.ListedLemmas.{one_written, option_moves}
+use Rattle.hare_find.proofs.Verdicts.Written.{one_written, option_moves}
 use Rattle.hare_find.proofs.settle.settle_kid.Goals as goal
 
 pub returns-then-settling-clause-seen : goal.returns-then-settling-clause-seen

@@ -3,7 +3,7 @@ use Rattle.hare_told.specs.Told.{AreToldYields}
 use Rattle.hare_flow.specs.declared.yields.Handed.{Handed}
 use Rattle.hare_flow.specs.Seen.{given_of}
 use Rattle.hare_find.specs.Yields.{IsDefinedOption}
-use Rattle.hare_find.proofs.ToldLemmas.{told-append, defined-append, given_at, given_more, taken_all}
+use Rattle.hare_find.proofs.YieldsSeen.Told.{told-append, defined-append, given_at, given_more, taken_all}
 use Rattle.hare_find.proofs.told.told_each.Goals as goal
 
 pub loop-i-preserved : goal.loop-i-preserved

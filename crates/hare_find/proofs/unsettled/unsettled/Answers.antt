@@ -1,6 +1,6 @@
 use Rattle.std.proofs.Common.{sym, subst}
 use Rattle.hare_find.specs.Findings.{AreDefinedSettlings}
-use Rattle.hare_find.proofs.UnsettledLemmas.{nones_defined}
+use Rattle.hare_find.proofs.SettlingNothing.AsFound.{nones_defined}
 use Rattle.hare_find.proofs.unsettled.unsettled.Goals as goal
 
 pub returns-clause-defined : goal.returns-clause-defined

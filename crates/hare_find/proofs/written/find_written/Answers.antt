@@ -6,7 +6,7 @@ use Rattle.hare_walk.specs.Walks.{IsTurnedBack}
 use Rattle.hare_walk.proofs.Steps.{err_same}
 use Rattle.rule_types.specs.Contexts.{head_in}
 use Rattle.hare_find.specs.Written.{IsAtType}
-use Rattle.hare_find.proofs.WrittenLemmas.{found_written, written_back}
+use Rattle.hare_find.proofs.SettlingNothing.WrittenTypes.{found_written, written_back}
 use Rattle.hare_find.proofs.written.find_written.Goals as goal
 
 pub returns-in_err-u-clause-err : goal.returns-in_err-u-clause-err

@@ -3,7 +3,7 @@ use Rattle.std.proofs.lemmas.Result.{on_ok_weaker}
 use Rattle.hare_flow.specs.Seen.{given_of}
 use Rattle.hare_rules.specs.Flow.{Flow, Yielded}
 use Rattle.hare_find.specs.Defined.{AreDefinedYielded}
-use Rattle.hare_find.proofs.DefinedLemmas.{yielded_append}
+use Rattle.hare_find.proofs.YieldsSeen.DefinedTypes.{yielded_append}
 use Rattle.hare_find.proofs.yields.hand_on.Goals as goal
 
 pub returns-in-Some-clause-defined : goal.returns-in-Some-clause-defined

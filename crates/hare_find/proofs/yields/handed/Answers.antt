@@ -6,7 +6,7 @@ use Rattle.hare_flow.specs.Seen.{given_of}
 use Rattle.hare_rules.specs.Context.{Given}
 use Rattle.rule_judge.specs.Defined.{IsDefinedTy}
 use Rattle.rule_judge.proofs.KidLemmas.{own_defined}
-use Rattle.hare_find.proofs.ClosingLemmas.{handed_value, handed_void}
+use Rattle.hare_find.proofs.Behind.Closed.{handed_value, handed_void}
 use Rattle.hare_find.proofs.yields.handed.Goals as goal
 
 pub returns-then-is_there-clause-value : goal.returns-then-is_there-clause-value

@@ -10,7 +10,7 @@ use Rattle.rule_judge.proofs.DefinedLemmas.{hint_stays, ty_stays}
 use Rattle.rule_judge.proofs.TurnLemmas.{grown_trans}
 use Rattle.hare_walk.specs.Walks.{IsTurned, IsInHand}
 use Rattle.hare_find.specs.Closing.{Closes}
-use Rattle.hare_find.proofs.DefinedLemmas.{locals_stay, yielded_stay}
+use Rattle.hare_find.proofs.YieldsSeen.DefinedTypes.{locals_stay, yielded_stay}
 use Rattle.hare_check.specs.Keeps.{IsKeptTree}
 use Rattle.hare_check.specs.Nodes.{program_of, above_of}
 use Rattle.hare_check.specs.Turned.{context_at}

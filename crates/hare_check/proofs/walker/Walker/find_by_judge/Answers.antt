@@ -5,7 +5,7 @@ use Rattle.hare_types.specs.Later.{IsLater}
 use Rattle.hare_types.proofs.LaterLemmas.{later_trans}
 use Rattle.hare_flow.specs.Seen.{given_of}
 use Rattle.hare_find.specs.Yields.{AreDefinedGivens}
-use Rattle.hare_find.proofs.DefinedLemmas.{givens_defined}
+use Rattle.hare_find.proofs.YieldsSeen.DefinedTypes.{givens_defined}
 use Rattle.hare_check.specs.Nodes.{above_of}
 use Rattle.hare_check.proofs.NodeLemmas.{node-grown, ready-turn, at-turn}
 use Rattle.hare_check.proofs.JudgingLemmas.{judged-answer, judged-stop}

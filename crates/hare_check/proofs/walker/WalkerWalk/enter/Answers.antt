@@ -7,7 +7,7 @@ use Rattle.rule_judge.proofs.DefinedLemmas.{trees_stay}
 use Rattle.hare_walk.specs.Spots.{spot}
 use Rattle.hare_above.specs.Asked.{AreDeclared}
 use Rattle.hare_above.proofs.ReadyLemmas.{ready_stays}
-use Rattle.hare_find.proofs.DefinedLemmas.{locals_stay}
+use Rattle.hare_find.proofs.YieldsSeen.DefinedTypes.{locals_stay}
 use Rattle.hare_check.specs.Walking.{program_over, IsWalking}
 use Rattle.hare_check.proofs.KeepLemmas.{each-kept, trees-defined}
 use Rattle.hare_check.proofs.WalkingLemmas.{known_stays}

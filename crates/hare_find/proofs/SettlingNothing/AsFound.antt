@@ -16,7 +16,7 @@ use Rattle.hare_find.specs.Late.{settled_in}
 use Rattle.hare_find.specs.Findings.{IsFoundAt, AreDefinedSettlings}
 use Rattle.hare_find.specs.Unsettled.{IsUnsettled}
 use Rattle.hare_find.specs.Listed.{written_each, coated_each}
-use Rattle.hare_find.proofs.FindingLemmas.{none_settled, none_moved, nones_written, nones_coated}
+use Rattle.hare_find.proofs.Verdicts.Found.{none_settled, none_moved, nones_written, nones_coated}
 
 -- the kids go as is found of them
 pub record AreFound (c : Context) (xs : List TypedNode) (cs : List Coercion) (os : List (Option Coercion)) : Type 0 where

@@ -33,7 +33,7 @@ use Rattle.hare_told.proofs.Labels.{blank}
 use Rattle.hare_told.proofs.Verdicts.{seen}
 use Rattle.hare_told.proofs.Settling.{first_left, next_left}
 use Rattle.hare_find.specs.Findings.{lists}
-use Rattle.hare_find.proofs.KidLemmas.{EachOver, IsKidFound}
+use Rattle.hare_find.proofs.Asked.Kids.{EachOver, IsKidFound}
 
 -- ---- coats
 

@@ -24,7 +24,7 @@ use Rattle.hare_find.specs.declared.finding.Finding.{Finding}
 use Rattle.hare_find.specs.Findings.{IsFound}
 use Rattle.hare_find.specs.Plain.{is_plain, goes_by_kind, IsAtPlain, IsAtCallee}
 use Rattle.hare_find.specs.Unsettled.{IsVoidFinding}
-use Rattle.hare_find.proofs.UnsettledLemmas.{found_unsettled}
+use Rattle.hare_find.proofs.SettlingNothing.AsFound.{found_unsettled}
 
 -- ---- rows
 

@@ -47,9 +47,9 @@ use Rattle.hare_find.specs.Listed.{listed_each, yields_listed, written_each, coa
 use Rattle.hare_find.specs.Late.{settled_in}
 use Rattle.hare_find.specs.Settling.{option_in}
 use Rattle.hare_find.specs.Findings.{lists, IsFoundAt}
-use Rattle.hare_find.proofs.UnsettledLemmas.{AreFound, found_none}
-use Rattle.hare_find.proofs.AskedLemmas.{IsAsked, context_at, told_context}
-use Rattle.hare_find.proofs.FindingLemmas.{listed_same, coated_from, as_is-more, no_yield_target, no_case_target}
+use Rattle.hare_find.proofs.SettlingNothing.AsFound.{AreFound, found_none}
+use Rattle.hare_find.proofs.Asked.AtTurn.{IsAsked, context_at, told_context}
+use Rattle.hare_find.proofs.Verdicts.Found.{listed_same, coated_from, as_is-more, no_yield_target, no_case_target}
 
 -- what a finding takes of a verdict
 pub record IsTakenFrom (l : Store) (t : Turn) (gs : List Given) (v : Verdict) (x : Finding) : Type 0 where

@@ -26,8 +26,8 @@ use Rattle.hare_find.specs.declared.finding.Finding.{Finding}
 use Rattle.hare_find.specs.Findings.{IsFound}
 use Rattle.hare_find.specs.Lengths.{is_length, IsLengthIn, IsAtLength}
 use Rattle.hare_find.specs.Unsettled.{IsUnsettled}
-use Rattle.hare_find.proofs.PlainLemmas.{meets_none, asks_nothing}
-use Rattle.hare_find.proofs.UnsettledLemmas.{found_unsettled}
+use Rattle.hare_find.proofs.SettlingNothing.WithoutRows.{meets_none, asks_nothing}
+use Rattle.hare_find.proofs.SettlingNothing.AsFound.{found_unsettled}
 
 -- ---- a length settles nothing
 

@@ -14,7 +14,7 @@ use Rattle.hare_find.specs.declared.listed.Settling.{Settling}
 use Rattle.hare_find.specs.Findings.{lists, AreDefinedSettlings}
 use Rattle.hare_find.specs.Listed.{listed_each}
 use Rattle.hare_find.specs.Settling.{option_in}
-use Rattle.hare_find.proofs.UnsettledLemmas.{nones_defined}
+use Rattle.hare_find.proofs.SettlingNothing.AsFound.{nones_defined}
 
 -- ---- how many
 

@@ -41,7 +41,7 @@ use Rattle.hare_find.specs.declared.finding.Finding.{Finding}
 use Rattle.hare_find.specs.Findings.{IsFound}
 use Rattle.hare_find.specs.Unsettled.{IsUnsettled}
 use Rattle.hare_find.specs.Written.{IsAtType}
-use Rattle.hare_find.proofs.UnsettledLemmas.{SettlesNothing, found_unsettled}
+use Rattle.hare_find.proofs.SettlingNothing.AsFound.{SettlesNothing, found_unsettled}
 
 -- ---- type nodes settle nothing
 

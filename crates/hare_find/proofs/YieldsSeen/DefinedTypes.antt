@@ -13,7 +13,7 @@ use Rattle.hare_rules.specs.Context.{Given}
 use Rattle.hare_rules.specs.Flow.{Yielded, is_at, yields_to}
 use Rattle.rule_judge.specs.Defined.{IsDefined, IsDefinedTree, AreDefinedTrees}
 use Rattle.rule_judge.proofs.DefinedLemmas.{defined_stays, ty_stays}
-use Rattle.hare_find.proofs.ToldLemmas.{option_stays}
+use Rattle.hare_find.proofs.YieldsSeen.Told.{option_stays}
 use Rattle.hare_find.specs.Defined.{AreDefinedLocals, AreDefinedYielded}
 use Rattle.hare_find.specs.Findings.{IsDefinedSettling, AreDefinedSettlings}
 use Rattle.hare_find.specs.Listed.{coated_one, coated_each}

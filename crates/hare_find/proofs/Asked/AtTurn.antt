@@ -23,9 +23,9 @@ use Rattle.hare_walk.specs.Walks.{AreInHand}
 use Rattle.rule_judge.specs.declared.turn.Turn.{Turn}
 use Rattle.rule_judge.specs.Turns.{context_in, head_in, kind_in, IsTurn}
 use Rattle.hare_find.specs.Findings.{lists, IsAtTurn}
-use Rattle.hare_find.proofs.KidLemmas.{IsRising, rising-apart, EachOver, IsKidFound, AreKidsFound, kids-found}
-use Rattle.hare_find.proofs.HintLemmas.{as_is-from}
-use Rattle.hare_find.proofs.ValueLemmas.{is_switch_case, hand-nothing}
+use Rattle.hare_find.proofs.Asked.Kids.{IsRising, rising-apart, EachOver, IsKidFound, AreKidsFound, kids-found}
+use Rattle.hare_find.proofs.Asked.Hints.{as_is-from}
+use Rattle.hare_find.proofs.Asked.Values.{is_switch_case, hand-nothing}
 
 -- Over a node stands this, and this has been seen: a judge is told of it, and what it lists for the kids is what the node settles of them.
 pub record IsAsked (w : Store → Setting) (s : Store) (a : Above) (f : Flow) (t : Turn) (gs : List Given) : Type 0 where
