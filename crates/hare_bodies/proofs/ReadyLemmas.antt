@@ -10,7 +10,7 @@ use Rattle.hare_rules.specs.declared.declared.DeclType.{DeclType}
 use Rattle.hare_rules.specs.Words.{nomem}
 use Rattle.rule_judge.specs.Defined.{IsDefinedName}
 use Rattle.rule_judge.specs.Meant.{IsKnownKind}
-use Rattle.hare_check.proofs.WalkingLemmas.{known_stays, decls_stay}
+use Rattle.hare_check.proofs.Walks.Growing.{known_stays, decls_stay}
 use Rattle.hare_ready.specs.Ready.{AreReady}
 use Rattle.hare_bodies.specs.Functions.{CanJudge}
 

@@ -12,7 +12,7 @@ use Rattle.hare_walk.specs.Grown.{IsGrown}
 use Rattle.hare_depends.proofs.ListLemmas.{Contains-there}
 use Rattle.hare_walk.proofs.Grows.{grown-refl, grown-trans}
 use Rattle.hare_walk.proofs.Steps.{err_same}
-use Rattle.hare_check.proofs.WalkingLemmas.{grown-later}
+use Rattle.hare_check.proofs.Walks.Growing.{grown-later}
 use Rattle.hare_bodies.specs.Functions.{CanJudge, IsTreeOf, IsStopOf}
 use Rattle.hare_bodies.proofs.ListLemmas.{next-function, next-other, next-stop}
 use Rattle.hare_bodies.proofs.ReadyLemmas.{can-judge-later}

@@ -1,5 +1,5 @@
 use Rattle.std.proofs.Common.{arith}
-use Rattle.hare_check.proofs.BeginningLemmas.{bindings-next, bindings-none}
+use Rattle.hare_check.proofs.Walks.Bindings.{bindings-next, bindings-none}
 use Rattle.hare_check.proofs.beginnings.+bindings.Goals as goal
 
 pub count_in_each-loop-i-preserved : goal.count_in_each-loop-i-preserved

@@ -1,6 +1,6 @@
 use Rattle.std.proofs.Common.{◌≡◌, ◌+◌, drop}
 use Rattle.hare_tree.specs.Node.{nodes_of}
-use Rattle.hare_check.proofs.BeginningLemmas.{bindings_of_each}
+use Rattle.hare_check.proofs.Walks.Bindings.{bindings_of_each}
 use Rattle.hare_check.proofs.beginnings.+bindings.Given as goal
 
 abbrev pub invariant-count_in_each-loop-i : goal.invariant-count_in_each-loop-i

@@ -5,8 +5,8 @@ use Rattle.hare_tree.specs.declared.kind.Kind.TheVariants as ki
 use Rattle.hare_tree.specs.contracts.kind.Kind.{the_type}
 use Rattle.hare_tree.specs.Node.{head}
 use Rattle.hare_check.specs.Answers.{over_body, before_body}
-use Rattle.hare_check.proofs.StepLemmas.{function-known}
-use Rattle.hare_check.proofs.ValueLemmas.{judged-trees, judged-answers, over-body, before-body}
+use Rattle.hare_check.proofs.Walks.Steps.{function-known}
+use Rattle.hare_check.proofs.Walks.Values.{judged-trees, judged-answers, over-body, before-body}
 use Rattle.hare_check.proofs.check.check_body.Goals as goal
 
 pub check_by-requires-clause-ready : goal.check_by-requires-clause-ready

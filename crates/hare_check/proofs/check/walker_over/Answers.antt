@@ -7,7 +7,7 @@ use Rattle.hare_walk.specs.Spots.{spot}
 use Rattle.hare_whole.specs.Parts.{bindings_of}
 use Rattle.hare_check.specs.Beginnings.{known_params, told_params}
 use Rattle.hare_check.specs.Walking.{IsWalking}
-use Rattle.hare_check.proofs.StepLemmas.{walking-start}
+use Rattle.hare_check.proofs.Walks.Steps.{walking-start}
 use Rattle.hare_check.proofs.check.walker_over.Goals as goal
 
 pub returns-clause-walks : goal.returns-clause-walks

@@ -1,6 +1,6 @@
 use Rattle.std.proofs.Common.{◌<◌, length, sym, subst, arith}
 use Rattle.rule_judge.specs.Meant.{IsMeant}
-use Rattle.hare_check.proofs.StepLemmas.{local-known}
+use Rattle.hare_check.proofs.Walks.Steps.{local-known}
 use Rattle.hare_check.proofs.known.is_known.Goals as goal
 
 pub returns-in-Local : goal.returns-in-Local

@@ -4,7 +4,7 @@ use denote.Enum.Bare.{same_true}
 use Rattle.hare_tree.specs.declared.kind.Kind.TheVariants as ki
 use Rattle.hare_tree.specs.contracts.kind.Kind.{the_type}
 use Rattle.rule_types.specs.Known.{IsTypeMeant, IsDefinedMeaning}
-use Rattle.hare_check.proofs.StepLemmas.{name-known, name-sized}
+use Rattle.hare_check.proofs.Walks.Steps.{name-known, name-sized}
 use Rattle.hare_check.proofs.known.is_known_type.Goals as goal
 
 pub returns-in-Some-clause-defined : goal.returns-in-Some-clause-defined

@@ -1,6 +1,6 @@
 use Rattle.std.proofs.Common.{ap, sym, ◌∙◌}
 use Rattle.hare_tree.specs.Node.{head}
-use Rattle.hare_check.proofs.MeaningLemmas.{call_meaning, literal_meaning}
+use Rattle.hare_check.proofs.TurnOfNode.Meanings.{call_meaning, literal_meaning}
 use Rattle.hare_check.proofs.meanings.path_meaning.Goals as goal
 
 pub returns-in-Call : goal.returns-in-Call

@@ -5,8 +5,8 @@ use Rattle.rule_judge.proofs.DefinedLemmas.{hint_stays}
 use Rattle.hare_walk.proofs.Grows.{grown-trans}
 use Rattle.hare_whole.specs.Declared as whole
 use Rattle.hare_check.specs.Answers.{program_in, over_value}
-use Rattle.hare_check.proofs.ValueLemmas.{over-value, judged-trees, judged-answers}
-use Rattle.hare_check.proofs.WalkingLemmas.{known_stays, decls_stay, grown-types, grown-later}
+use Rattle.hare_check.proofs.Walks.Values.{over-value, judged-trees, judged-answers}
+use Rattle.hare_check.proofs.Walks.Growing.{known_stays, decls_stay, grown-types, grown-later}
 use Rattle.hare_check.proofs.value.check_value.Goals as goal
 
 pub check_by-judged-requires-clause-ready : goal.check_by-judged-requires-clause-ready

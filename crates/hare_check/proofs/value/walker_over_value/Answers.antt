@@ -6,7 +6,7 @@ use Rattle.hare_rules.specs.Flow.{Flow, flow_at}
 use Rattle.hare_walk.specs.Spots.{spot}
 use Rattle.hare_whole.specs.Parts.{bindings_of}
 use Rattle.hare_check.specs.Walking.{IsWalking}
-use Rattle.hare_check.proofs.ValueLemmas.{value-start}
+use Rattle.hare_check.proofs.Walks.Values.{value-start}
 use Rattle.hare_check.proofs.value.walker_over_value.Goals as goal
 
 pub returns-clause-walks : goal.returns-clause-walks

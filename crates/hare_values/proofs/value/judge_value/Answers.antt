@@ -4,7 +4,7 @@ use Rattle.hare_modules.proofs.Trees.{kid-there}
 use Rattle.hare_steps.specs.Plans.{listing}
 use Rattle.hare_walk.proofs.Grows.{grown-trans}
 use Rattle.hare_walk.proofs.Steps.{err_same}
-use Rattle.hare_check.proofs.WalkingLemmas.{grown-later}
+use Rattle.hare_check.proofs.Walks.Growing.{grown-later}
 use Rattle.hare_values.specs.Values.{IsValueStop}
 use Rattle.hare_values.proofs.AnswerLemmas.{erased, stop-inside, value-of, stop-itself}
 use Rattle.hare_values.proofs.ReadyLemmas.{taken-later}

@@ -14,11 +14,11 @@ use Rattle.hare_find.proofs.YieldsSeen.DefinedTypes.{locals_stay, yielded_stay}
 use Rattle.hare_check.specs.Keeps.{IsKeptTree}
 use Rattle.hare_check.specs.Nodes.{program_of, above_of}
 use Rattle.hare_check.specs.Turned.{context_at}
-use Rattle.hare_check.proofs.CloseLemmas.{IsClosing, own-path, closing-closed, closing-kept, closing-walks}
-use Rattle.hare_check.proofs.FoldLemmas.{finishing-value}
-use Rattle.hare_check.proofs.KeepLemmas.{trees-defined}
-use Rattle.hare_check.proofs.LookingLemmas.{none-before}
-use Rattle.hare_check.proofs.TurnedLemmas.{is_turned, in_hand}
+use Rattle.hare_check.proofs.TurnOfNode.Closed.{IsClosing, own-path, closing-closed, closing-kept, closing-walks}
+use Rattle.hare_check.proofs.TurnOfNode.Constants.{finishing-value}
+use Rattle.hare_check.proofs.Kept.Relied.{trees-defined}
+use Rattle.hare_check.proofs.NodeAtHand.Looking.{none-before}
+use Rattle.hare_check.proofs.TurnOfNode.Given.{is_turned, in_hand}
 use Rattle.hare_check.proofs.walker.Walker.close.Goals as goal
 
 pub close-requires-clause-defined : goal.close-requires-clause-defined

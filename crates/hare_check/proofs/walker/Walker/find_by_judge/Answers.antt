@@ -7,8 +7,8 @@ use Rattle.hare_flow.specs.Seen.{given_of}
 use Rattle.hare_find.specs.Yields.{AreDefinedGivens}
 use Rattle.hare_find.proofs.YieldsSeen.DefinedTypes.{givens_defined}
 use Rattle.hare_check.specs.Nodes.{above_of}
-use Rattle.hare_check.proofs.NodeLemmas.{node-grown, ready-turn, at-turn}
-use Rattle.hare_check.proofs.JudgingLemmas.{judged-answer, judged-stop}
+use Rattle.hare_check.proofs.NodeAtHand.Later.{node-grown, ready-turn, at-turn}
+use Rattle.hare_check.proofs.FoundOfNode.Judging.{judged-answer, judged-stop}
 use Rattle.hare_check.proofs.walker.Walker.find_by_judge.Goals as goal
 
 pub told_yields-requires : goal.told_yields-requires

@@ -3,7 +3,7 @@ use Rattle.hare_tree.specs.declared.kind.Kind.TheVariants as ki
 use Rattle.hare_tree.specs.Node.{head}
 use Rattle.hare_find.specs.Plain.{IsAtCallee}
 use Rattle.hare_check.specs.Nodes.{program_of, above_of}
-use Rattle.hare_check.proofs.FoundLemmas.{called-finding}
+use Rattle.hare_check.proofs.FoundOfNode.Finding.{called-finding}
 use Rattle.hare_check.proofs.walker.Walker.find_called.Goals as goal
 
 pub returns-in_ok-found-in-Path-clause-ok : goal.returns-in_ok-found-in-Path-clause-ok

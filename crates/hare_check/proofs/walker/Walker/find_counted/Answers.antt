@@ -2,7 +2,7 @@ use Rattle.std.proofs.Common.{◌≡◌, true, refl}
 use Rattle.hare_tree.specs.Node.{head}
 use Rattle.hare_find.specs.Lengths.{is_length, IsAtLength}
 use Rattle.hare_check.specs.Nodes.{program_of, above_of}
-use Rattle.hare_check.proofs.FoundLemmas.{length-finding}
+use Rattle.hare_check.proofs.FoundOfNode.Finding.{length-finding}
 use Rattle.hare_check.proofs.walker.Walker.find_counted.Goals as goal
 
 pub returns-clause-ok : goal.returns-clause-ok

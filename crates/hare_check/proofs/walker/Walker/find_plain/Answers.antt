@@ -1,8 +1,8 @@
 use Rattle.std.proofs.Common.{refl}
 use Rattle.hare_find.specs.Plain.{IsAtPlain}
 use Rattle.hare_check.specs.Nodes.{program_of, above_of}
-use Rattle.hare_check.proofs.WalkingLemmas.{grown-types}
-use Rattle.hare_check.proofs.FoundLemmas.{plain-finding}
+use Rattle.hare_check.proofs.Walks.Growing.{grown-types}
+use Rattle.hare_check.proofs.FoundOfNode.Finding.{plain-finding}
 use Rattle.hare_check.proofs.walker.Walker.find_plain.Goals as goal
 
 pub returns-clause-ok : goal.returns-clause-ok

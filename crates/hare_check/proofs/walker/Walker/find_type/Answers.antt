@@ -13,9 +13,9 @@ use Rattle.hare_find.specs.declared.finding.Finding.{Finding}
 use Rattle.hare_find.specs.Findings.{IsFound}
 use Rattle.hare_find.specs.Written.{IsAtType}
 use Rattle.hare_check.specs.Nodes.{program_of, above_of, IsStopOf}
-use Rattle.hare_check.proofs.FoundLemmas.{type-answer}
-use Rattle.hare_check.proofs.ResultLemmas.{ok-map, err-map}
-use Rattle.hare_check.proofs.TypeLemmas.{told-type, defined-type}
+use Rattle.hare_check.proofs.FoundOfNode.Finding.{type-answer}
+use Rattle.hare_check.proofs.FoundOfNode.Answers.{ok-map, err-map}
+use Rattle.hare_check.proofs.NodeAtHand.Types.{told-type, defined-type}
 use Rattle.hare_check.proofs.walker.Walker.find_type.Goals as goal
 
 pub find_written-requires-clause-told : goal.find_written-requires-clause-told

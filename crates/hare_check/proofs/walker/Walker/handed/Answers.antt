@@ -1,4 +1,4 @@
-use Rattle.hare_check.proofs.LookingLemmas.{none-before}
+use Rattle.hare_check.proofs.NodeAtHand.Looking.{none-before}
 use Rattle.hare_check.proofs.walker.Walker.handed.Goals as goal
 
 pub handed-requires : goal.handed-requires

@@ -23,8 +23,9 @@ use Rattle.rule_judge.specs.Defined.{IsDefinedHint}
 use Rattle.rule_judge.proofs.TurnLemmas.{grown_here}
 use Rattle.hare_check.specs.Nodes.{program_of, above_of, IsStopOf, IsTakenAt}
 use Rattle.hare_check.specs.Turned.{context_at}
-use Rattle.hare_check.proofs.LookingLemmas.{looked-local, stop-local, IsToldYieldOf, yield-told, looked-yield, looked-other, stop-refused}
-use Rattle.hare_check.proofs.ResultLemmas.{on-map, err-map}
+use Rattle.hare_check.proofs.NodeAtHand.Looking.{looked-local, stop-local, IsToldYieldOf, yield-told, looked-yield, looked-other}
+use Rattle.hare_check.proofs.NodeAtHand.Looking.{stop-refused}
+use Rattle.hare_check.proofs.FoundOfNode.Answers.{on-map, err-map}
 use Rattle.hare_check.proofs.walker.Walker.look.Goals as goal
 
 pub look_at_yield-requires : goal.look_at_yield-requires

@@ -9,9 +9,9 @@ use Rattle.hare_above.specs.Asked.{AreDeclared}
 use Rattle.hare_above.proofs.ReadyLemmas.{ready_stays}
 use Rattle.hare_find.proofs.YieldsSeen.DefinedTypes.{locals_stay}
 use Rattle.hare_check.specs.Walking.{program_over, IsWalking}
-use Rattle.hare_check.proofs.KeepLemmas.{each-kept, trees-defined}
-use Rattle.hare_check.proofs.WalkingLemmas.{known_stays}
-use Rattle.hare_check.proofs.StepLemmas.{IsEntered, walking-enter}
+use Rattle.hare_check.proofs.Kept.Relied.{each-kept, trees-defined}
+use Rattle.hare_check.proofs.Walks.Growing.{known_stays}
+use Rattle.hare_check.proofs.Walks.Steps.{IsEntered, walking-enter}
 use Rattle.hare_check.proofs.walker.WalkerWalk.enter.Goals as goal
 
 pub bind_before-requires : goal.bind_before-requires

@@ -1,4 +1,4 @@
-use Rattle.hare_check.proofs.StepLemmas.{walking-leave, popped-rest}
+use Rattle.hare_check.proofs.Walks.Steps.{walking-leave, popped-rest}
 use Rattle.hare_check.proofs.walker.WalkerWalk.leave.Goals as goal
 
 pub returns-clause-ready : goal.returns-clause-ready

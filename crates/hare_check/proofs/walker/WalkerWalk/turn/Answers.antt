@@ -3,9 +3,9 @@ use Rattle.hare_tree.specs.Node.{head}
 use Rattle.hare_typed.specs.Typed.{TypedNode}
 use Rattle.hare_walk.specs.Spots.{spot}
 use Rattle.hare_check.specs.Nodes.{Walks, IsAtNode}
-use Rattle.hare_check.proofs.SameLemmas.{same-walks, same-node, node-later, same-finding, same-turned}
-use Rattle.hare_check.proofs.KeepLemmas.{each-kept}
-use Rattle.hare_check.proofs.WalkingLemmas.{walking-grown}
+use Rattle.hare_check.proofs.NodeAtHand.Same.{same-walks, same-node, node-later, same-finding, same-turned}
+use Rattle.hare_check.proofs.Kept.Relied.{each-kept}
+use Rattle.hare_check.proofs.Walks.Growing.{walking-grown}
 use Rattle.hare_check.proofs.walker.WalkerWalk.turn.Goals as goal
 
 pub find-found-requires : goal.find-found-requires

@@ -34,7 +34,7 @@ use Rattle.rule_judge.specs.Defined.{IsDefinedTree}
 use Rattle.rule_mem.specs.Needs.{leads_by, has_place_form, has_first_form}
 use Rattle.rule_types.specs.Known.{IsKnownBy}
 use Rattle.hare_check.specs.Keeps.{is_case, IsKeptTree, AreKeptTrees}
-use Rattle.hare_check.proofs.KeepLemmas.{first-typed}
+use Rattle.hare_check.proofs.Kept.Relied.{first-typed}
 
 -- ---- types with an id
 

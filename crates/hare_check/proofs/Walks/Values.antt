@@ -28,8 +28,8 @@ use Rattle.hare_whole.specs.Declared.{over_value, over_body, before_body}
 use Rattle.hare_whole.specs.Parts.{id_or_zero}
 use Rattle.hare_whole.specs.Turns.{params_in, result_in}
 use Rattle.hare_check.specs.Walking.{program_over, AreKnownDecls, IsWalking}
-use Rattle.hare_check.proofs.SpottedLemmas.{spotted-start}
-use Rattle.hare_check.proofs.StepLemmas.{begun-told, begun-defined}
+use Rattle.hare_check.proofs.Labels.Spots.{spotted-start}
+use Rattle.hare_check.proofs.Walks.Steps.{begun-told, begun-defined}
 
 -- What a walk begins with, over a value that is asked for this, where this type stands for what is returned.
 pub record IsBegunValue (s : Store) (ds : List DeclType) (ty : ℕ) (h : Hint) : Type 0 where

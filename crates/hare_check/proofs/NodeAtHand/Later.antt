@@ -22,10 +22,10 @@ use Rattle.hare_find.specs.Findings.{IsAtTurn}
 use Rattle.hare_check.specs.declared.walker.Walker.{Walker}
 use Rattle.hare_check.specs.Nodes.{program_of, above_of, IsAtNode}
 use Rattle.hare_check.specs.Turned.{context_at}
-use Rattle.hare_check.proofs.KeepLemmas.{each_kept-grown, first-typed, trees-defined}
-use Rattle.hare_check.proofs.KeepCases.{cases-typed}
-use Rattle.hare_check.proofs.ReadyLemmas.{judged-shaped}
-use Rattle.hare_check.proofs.WalkingLemmas.{grown-types, walking-later}
+use Rattle.hare_check.proofs.Kept.Relied.{each_kept-grown, first-typed, trees-defined}
+use Rattle.hare_check.proofs.Kept.Cases.{cases-typed}
+use Rattle.hare_check.proofs.NodeAtHand.Ready.{judged-shaped}
+use Rattle.hare_check.proofs.Walks.Growing.{grown-types, walking-later}
 
 pub node-grown : (s r : Store) (w : Walker) (n : Node) (xs : List TypedNode) → IsStore s → IsGrownInTypes s r → IsAtNode s w n xs →
     IsAtNode r w n xs

@@ -28,7 +28,7 @@ use Rattle.hare_find.specs.Findings.{IsFoundAt}
 use Rattle.hare_find.specs.Listed.{coated_one, coated_each}
 use Rattle.hare_find.specs.Settling.{option_in}
 use Rattle.hare_check.specs.Turned.{context_at, IsClosed}
-use Rattle.hare_check.proofs.BehindLemmas.{kids-behind}
+use Rattle.hare_check.proofs.TurnOfNode.Behind.{kids-behind}
 
 -- ---- kids without their coercions
 

@@ -29,9 +29,9 @@ use Rattle.hare_check.specs.Keeps.{IsKeptTree}
 use Rattle.hare_check.specs.Nodes.{program_of, above_of, Walks, IsAtNode, IsFindingOf, kids_behind}
 use Rattle.hare_check.specs.Turned.{context_at, IsClosed}
 use Rattle.hare_check.specs.Walking.{IsWalking}
-use Rattle.hare_check.proofs.KeepLemmas.{kept-grown, trees-defined}
-use Rattle.hare_check.proofs.SpottedLemmas.{spotted-later, spotted-turn}
-use Rattle.hare_check.proofs.WalkingLemmas.{known_stays, decls_stay, grown-types}
+use Rattle.hare_check.proofs.Kept.Relied.{kept-grown, trees-defined}
+use Rattle.hare_check.proofs.Labels.Spots.{spotted-later, spotted-turn}
+use Rattle.hare_check.proofs.Walks.Growing.{known_stays, decls_stay, grown-types}
 
 -- This was found of the node at hand. Behind its turn, in a later store, this has been seen, and these are its mark and its kids.
 pub record IsClosing (s r : Store) (w : Walker) (n : Node) (xs : List TypedNode) (x : Finding) (g : Flow) (m : Mark) (ys : List TypedNode) :

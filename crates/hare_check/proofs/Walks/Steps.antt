@@ -29,8 +29,8 @@ use Rattle.hare_find.specs.Defined.{AreDefinedLocals}
 use Rattle.hare_check.specs.Beginnings.{known_params, told_params}
 use Rattle.hare_check.specs.Spotted.{AreSpotted}
 use Rattle.hare_check.specs.Walking.{AreKnownDecls, IsWalking}
-use Rattle.hare_check.proofs.SpottedLemmas.{spotted-start, spotted-enter, spotted-leave}
-use Rattle.hare_check.proofs.WalkingLemmas.{walking-later}
+use Rattle.hare_check.proofs.Labels.Spots.{spotted-start, spotted-enter, spotted-leave}
+use Rattle.hare_check.proofs.Walks.Growing.{walking-later}
 
 -- ---- before a body
 

@@ -32,7 +32,7 @@ use Rattle.hare_check.specs.declared.walker.Walker.{Walker}
 use Rattle.hare_check.specs.Nodes.{program_of, above_of, IsAtNode, IsStopOf}
 use Rattle.hare_check.specs.Spotted.{AreSpotted}
 use Rattle.hare_check.specs.Turned.{context_at}
-use Rattle.hare_check.proofs.SpottedLemmas.{spotted-from, spotted-taken}
+use Rattle.hare_check.proofs.Labels.Spots.{spotted-from, spotted-taken}
 
 -- ---- what was yielded when the node began
 

@@ -27,8 +27,8 @@ use Rattle.hare_find.specs.Settling.{option_in}
 use Rattle.hare_check.specs.declared.walker.Walker.{Walker}
 use Rattle.hare_check.specs.Nodes.{program_of, above_of, IsAtNode, IsFindingOf, kids_behind}
 use Rattle.hare_check.specs.Turned.{context_at}
-use Rattle.hare_check.proofs.KeepLemmas.{each_kept-grown}
-use Rattle.hare_check.proofs.KeepPlain.{kept-plain, kept-callee, kept-length, kept-written}
+use Rattle.hare_check.proofs.Kept.Relied.{each_kept-grown}
+use Rattle.hare_check.proofs.Kept.Plain.{kept-plain, kept-callee, kept-length, kept-written}
 
 -- what is found of a node in a store, and in it
 pub record IsFoundOf (s : Store) (w : Walker) (n : Node) (xs : List TypedNode) (x : Finding) : Type 0 where

@@ -22,8 +22,8 @@ use Rattle.hare_walk.specs.Spots.{Spot, spot, one_more}
 use Rattle.hare_walk.proofs.Grows.{later-grown}
 use Rattle.hare_check.specs.Fits.{IsVoidTaken, AreOpenTo}
 use Rattle.hare_check.specs.Spotted.{ways, nameless, labels_round, labels_behind, IsSpotted, AreRound, AreSpotted}
-use Rattle.hare_check.proofs.MeantLemmas.{yield-open}
-use Rattle.hare_check.proofs.PlaceLemmas.{each_open-ways, ways-last, ways-outside, each_open-more, each_open-loop, is_past, each_open-filter, each_open-taken, take-filter, filter-open, each_open-push, each_open-later, ends-last}
+use Rattle.hare_check.proofs.Labels.Meant.{yield-open}
+use Rattle.hare_check.proofs.Labels.Places.{each_open-ways, ways-last, ways-outside, each_open-more, each_open-loop, is_past, each_open-filter, each_open-taken, take-filter, filter-open, each_open-push, each_open-later, ends-last}
 
 -- ---- labels round a kid
 

@@ -16,8 +16,8 @@ use Rattle.hare_find.specs.Findings.{IsFound}
 use Rattle.hare_check.specs.declared.walker.Walker.{Walker}
 use Rattle.hare_check.specs.Nodes.{program_of, above_of, Walks, IsAtNode, IsSame, IsFindingOf}
 use Rattle.hare_check.specs.Walking.{program_over}
-use Rattle.hare_check.proofs.KeepLemmas.{each_kept-grown}
-use Rattle.hare_check.proofs.WalkingLemmas.{grown-later, walking-later}
+use Rattle.hare_check.proofs.Kept.Relied.{each_kept-grown}
+use Rattle.hare_check.proofs.Walks.Growing.{grown-later, walking-later}
 
 pub same-program : (w v : Walker) → IsSame w v → program_of v ≡ program_of w
 same-program w v e = ap (λ ns. program_over ns v.decls.now) e.names ∙ ap (program_over w.names.now) e.decls

@@ -36,7 +36,7 @@ use Rattle.rule_judge.proofs.BaseLemmas.{base_there}
 use Rattle.rule_mem.specs.Needs.{leads_by, has_first_form}
 use Rattle.rule_types.specs.Known.{IsKnown, IsKnownTy, IsBasedTy, IsKnownBy}
 use Rattle.hare_check.specs.Keeps.{is_case, IsKeptTree, AreKeptTrees}
-use Rattle.hare_check.proofs.KeepJudged.{typed_id, path_id, settled_id}
+use Rattle.hare_check.proofs.Kept.Judged.{typed_id, path_id, settled_id}
 
 -- ---- written types
 

@@ -22,7 +22,7 @@ use Rattle.hare_above.specs.Stands.{Stands}
 use Rattle.hare_above.proofs.ReadyLemmas.{ready_stays}
 use Rattle.hare_find.proofs.YieldsSeen.DefinedTypes.{locals_stay, yielded_stay}
 use Rattle.hare_check.specs.Walking.{AreKnownDecls, IsWalking}
-use Rattle.hare_check.proofs.SpottedLemmas.{spotted-later}
+use Rattle.hare_check.proofs.Labels.Spots.{spotted-later}
 
 module _ (now later : Store) (v : IsStore now) (l : IsLater now later) where
   name_stays : (d : ℕ) → IsDefinedName now d → IsDefinedName later d

@@ -26,8 +26,8 @@ use Rattle.hare_check.specs.declared.walker.Walker.{Walker}
 use Rattle.hare_check.specs.Keeps.{AreKeptTrees}
 use Rattle.hare_check.specs.Nodes.{program_of, above_of, IsTakenAt, IsFindingOf, IsStopOf, kids_behind}
 use Rattle.hare_check.specs.Turned.{context_at}
-use Rattle.hare_check.proofs.FoundLemmas.{IsFoundOf, type-found, own-found}
-use Rattle.hare_check.proofs.KeepJudged.{kept-judged}
+use Rattle.hare_check.proofs.FoundOfNode.Finding.{IsFoundOf, type-found, own-found}
+use Rattle.hare_check.proofs.Kept.Judged.{kept-judged}
 
 -- The turn of the node at hand has come, in a store in which its kids are kept; what it hands on is taken, where it means a block or a
 -- case.

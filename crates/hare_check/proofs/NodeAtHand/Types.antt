@@ -17,8 +17,8 @@ use Rattle.rule_types.specs.Known.{IsTypeMeant, IsDefinedMeaning, IsToldType, Is
 use Rattle.hare_check.specs.declared.walker.Walker.{Walker}
 use Rattle.hare_check.specs.Keeps.{AreKeptTrees}
 use Rattle.hare_check.specs.Nodes.{IsAtNode}
-use Rattle.hare_check.proofs.KeepLemmas.{parts-known, trees-defined}
-use Rattle.hare_check.proofs.ReadyLemmas.{type-shaped}
+use Rattle.hare_check.proofs.Kept.Relied.{parts-known, trees-defined}
+use Rattle.hare_check.proofs.NodeAtHand.Ready.{type-shaped}
 
 pub first-defined : (s : Store) (xs : List TypedNode) → AreKeptTrees s xs → IsDefinedTy s (own_type (tree_from_front 0 xs))
 first-defined s [] k = tt
