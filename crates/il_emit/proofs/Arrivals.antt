@@ -29,7 +29,7 @@ use Rattle.il_code.specs.MachineLaws.{jumps_and_calls}
 use Rattle.il_code.specs.Run.{Run, after_step, start_world}
 use Rattle.il_code.specs.State as il
 use Rattle.il_code.specs.Step.{bound}
-use Rattle.il_tight.proofs.Light.{price, after_steps, start, started}
+use Rattle.il_tight.proofs.SameRuns.Light.{price, after_steps, start, started}
 use Rattle.il_emit.specs.declared.goal.Goal.TheVariants.{Next}
 use Rattle.il_emit.specs.Names.{label_name}
 use Rattle.il_emit.specs.Lines.{Line, End, code_lines, frame_lines, end_value, function_lines}

@@ -29,12 +29,12 @@ use Rattle.il_code.specs.declared.types.Phi.{Phi}
 use Rattle.il_code.specs.Machine.{assigned, block_assigned, all_assigned, is_among, distinct}
 use Rattle.il_code.specs.Step.{taken}
 use Rattle.il_tight.specs.Tight.{staying, unset}
-use Rattle.il_tight.proofs.Kept.{kept}
-use Rattle.il_tight.proofs.Lacking.{Settles, unset_passes}
-use Rattle.il_tight.proofs.Light.{price}
-use Rattle.il_tight.proofs.Passing.{kept_pass}
-use Rattle.il_tight.proofs.Twins.{Plain, plain_append, plain_kept, unset_plain}
-use Rattle.il_tight.proofs.Wholes.{price_is}
+use Rattle.il_tight.proofs.KeptBlocks.Kept.{kept}
+use Rattle.il_tight.proofs.StillValid.Lacking.{Settles, unset_passes}
+use Rattle.il_tight.proofs.SameRuns.Light.{price}
+use Rattle.il_tight.proofs.TightBlocks.Passing.{kept_pass}
+use Rattle.il_tight.proofs.SameRuns.Twins.{Plain, plain_append, plain_kept, unset_plain}
+use Rattle.il_tight.proofs.SameRuns.Wholes.{price_is}
 use Rattle.il_emit.specs.Names.{temp_name, address_name, frame_name, label_name}
 use Rattle.il_emit.specs.Lines.{Line, End, all_addressed, addresses_in, addresses_in_all, labels_in, frame_lines, inner_lines, end_value, result_param}
 use Rattle.il_emit.specs.Emitted.{params_of, blocks_of}

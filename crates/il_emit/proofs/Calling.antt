@@ -31,8 +31,8 @@ use Rattle.il_code.specs.State as il
 use Rattle.il_code.specs.State.{Code, Waiting, Called, start_of}
 use Rattle.il_code.specs.Step as step
 use Rattle.il_code.specs.Step.{taken, took, bound, returned, arg_values}
-use Rattle.il_tight.proofs.Light as light
-use Rattle.il_tight.proofs.Light.{price, call_step, further, after_steps}
+use Rattle.il_tight.proofs.SameRuns.Light as light
+use Rattle.il_tight.proofs.SameRuns.Light.{price, call_step, further, after_steps}
 use Rattle.il_emit.specs.declared.goal.Goal.TheVariants.{Next}
 use Rattle.il_emit.specs.Names.{temp_name, frame_name, label_name}
 use Rattle.il_emit.specs.Lines.{Line, Do, End, arg_lines, args_of, all_addressed, result_param, call_lines, code_lines, frame_lines, end_value, function_lines}

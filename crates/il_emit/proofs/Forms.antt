@@ -43,7 +43,7 @@ use Rattle.il_code.specs.Step as step
 use Rattle.il_code.specs.Step.{Step, Kind, Computes, kind_of, second_value, set_step, arg_values, runtime_step, runtime_call, returned}
 use Rattle.il_code.specs.State as il_state
 use Rattle.il_code.specs.Run.{Run, after_step}
-use Rattle.il_tight.proofs.Light.{call_step, further, after_steps}
+use Rattle.il_tight.proofs.SameRuns.Light.{call_step, further, after_steps}
 use Rattle.il_emit.specs.Lines.{Line, Do, End, own_label, operand, second, address_lines, arg_lines, args_of, all_addressed, result_param, call_params, load_lines, store_lines, move_lines, call_lines, return_lines}
 use Rattle.il_emit.specs.declared.goal.Goal.{Goal}
 use Rattle.il_emit.specs.Names.{temp_name, label_name}

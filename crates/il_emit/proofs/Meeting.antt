@@ -7,7 +7,7 @@ use Rattle.il_code.specs.declared.types.Module.{Module}
 use Rattle.il_code.specs.Machine as machine
 use Rattle.il_code.specs.MachineLaws.{jumps_and_calls}
 use Rattle.il_code.specs.Run.{Run}
-use Rattle.il_tight.proofs.Light.{after_steps}
+use Rattle.il_tight.proofs.SameRuns.Light.{after_steps}
 use Rattle.il_emit.specs.Names.{label_name}
 use Rattle.il_emit.specs.Lines.{Line, Label, End}
 use Rattle.il_emit.proofs.Places.{Finds}

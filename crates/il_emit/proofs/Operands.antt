@@ -24,7 +24,7 @@ use Rattle.il_code.specs.Addresses.{address}
 use Rattle.il_code.specs.Machine.{Temps, temp_value, cut}
 use Rattle.il_code.specs.State as state
 use Rattle.il_code.specs.Run.{Run}
-use Rattle.il_tight.proofs.Light.{after_steps}
+use Rattle.il_tight.proofs.SameRuns.Light.{after_steps}
 use Rattle.il_emit.specs.Names.{temp_name, address_name}
 use Rattle.il_emit.specs.Lines.{Line, Do, name_at, operand, address_inst, address_lines, arg_lines, args_of, all_addressed}
 use Rattle.il_emit.proofs.NamedFunctions.{emitted}

@@ -3,8 +3,8 @@ use Rattle.std.proofs.Common.{List, [], ◌∷◌, ◌++◌, map, refl, sym, sub
 use Rattle.flat_code.specs.declared.program.Data.{Data}
 use Rattle.flat_code.specs.declared.program.FlatFn.{FlatFn}
 use Rattle.flat_code.specs.declared.program.FlatProgram.{FlatProgram}
-use Rattle.il_tight.proofs.Runs.{NoPhis}
-use Rattle.il_tight.proofs.Twins.{Plain}
+use Rattle.il_tight.proofs.SameRuns.Runs.{NoPhis}
+use Rattle.il_tight.proofs.SameRuns.Twins.{Plain}
 use Rattle.il_emit.specs.Emitted.{data_item, blocks_of, function_item, module_of}
 use Rattle.il_emit.specs.Lines.{Line, Label, Do, End, function_lines}
 use Rattle.il_emit.proofs.Places.{line_blocks, function_blocks}

@@ -16,7 +16,7 @@ use Rattle.il_code.specs.MachineLaws.{jumps_and_calls}
 use Rattle.il_code.specs.State.{State, Waiting, Done, Jumped, start_of}
 use Rattle.il_code.specs.Step.{value_of, returned}
 use Rattle.il_code.specs.Run.{Run}
-use Rattle.il_tight.proofs.Light.{step, further, after_steps}
+use Rattle.il_tight.proofs.SameRuns.Light.{step, further, after_steps}
 use Rattle.il_emit.specs.Names.{temp_name, frame_name, label_name}
 use Rattle.il_emit.specs.Lines.{Line, End}
 use Rattle.il_emit.specs.Reaches.{fault_for}

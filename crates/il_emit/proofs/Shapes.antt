@@ -25,7 +25,7 @@ use Rattle.il_code.specs.declared.types.Jump.TheVariants as jump
 use Rattle.il_code.specs.declared.types.Module.{Module}
 use Rattle.il_code.specs.State as il
 use Rattle.il_code.specs.Step.{Kind, kind_of}
-use Rattle.il_tight.proofs.Light.{price}
+use Rattle.il_tight.proofs.SameRuns.Light.{price}
 use Rattle.il_emit.specs.declared.goal.Goal.TheVariants.{Next}
 use Rattle.il_emit.specs.Names.{frame_name, label_name}
 use Rattle.il_emit.specs.Ops.{il_op, load_op}

@@ -28,15 +28,15 @@ use Rattle.il_code.specs.Run.{Run, after_steps, start, machine}
 use Rattle.il_code.proofs.Budgets.{run_to-after_steps}
 use Rattle.il_tight.specs.Tight.{is_closed, zero, tight_item, tight_module}
 use Rattle.il_tight.specs.Tightness.{IsZero}
-use Rattle.il_tight.proofs.Behind.{IsZeros, zero_holds}
-use Rattle.il_tight.proofs.Kept.{into_insts, into_jump, whole, kept}
-use Rattle.il_tight.proofs.Light as light
-use Rattle.il_tight.proofs.Passing.{all_reached, into_pass, kept_pass, label_kept}
-use Rattle.il_tight.proofs.Runs.{NoPhis, functions_same, start_same, Alike, runs_alike}
-use Rattle.il_tight.proofs.Twins.{SameCode, no_code, one_code, IsWhole}
-use Rattle.il_tight.proofs.Settings.{or_left}
-use Rattle.il_tight.proofs.Staying.{first_stays}
-use Rattle.il_tight.proofs.Valid.{values_same}
+use Rattle.il_tight.proofs.KeptBlocks.Behind.{IsZeros, zero_holds}
+use Rattle.il_tight.proofs.KeptBlocks.Kept.{into_insts, into_jump, whole, kept}
+use Rattle.il_tight.proofs.SameRuns.Light as light
+use Rattle.il_tight.proofs.TightBlocks.Passing.{all_reached, into_pass, kept_pass, label_kept}
+use Rattle.il_tight.proofs.SameRuns.Runs.{NoPhis, functions_same, start_same, Alike, runs_alike}
+use Rattle.il_tight.proofs.SameRuns.Twins.{SameCode, no_code, one_code, IsWhole}
+use Rattle.il_tight.proofs.TightBlocks.Settings.{or_left}
+use Rattle.il_tight.proofs.KeptBlocks.Staying.{first_stays}
+use Rattle.il_tight.proofs.StillValid.Valid.{values_same}
 use Rattle.il_emit.specs.Emitted.{data_item, function_item, module_of}
 use Rattle.il_emit.specs.Reaches.{SameWorld, Arrives, Overflows, Reaches}
 use Rattle.il_emit.specs.Shape.{backward_jumps, calls_of, is_call_of, is_alloc, has_fixed_size, allocs_are_placed, takes, IsShapedAs, AreAlike, outlined, HasShape}

@@ -12,7 +12,7 @@ use il_code::{Block, Blocks, IlParam, Insts};
 use std::alloc::{AllocError, Global};
 
 /// Blocks from the last to the first.
-#[tactic(auto, using(crate::proofs::Lists::turned))]
+#[tactic(auto, using(crate::proofs::KeptBlocks::Lists::turned))]
 fn reversed(alloc: Global, blocks: Blocks) -> Result<Blocks, AllocError>
     ensures { IfOk result (λ bs. bs ≡ reverse blocks) }
 {
@@ -25,7 +25,7 @@ fn reversed(alloc: Global, blocks: Blocks) -> Result<Blocks, AllocError>
 }
 
 /// Puts instructions behind others.
-#[tactic(auto, using(crate::proofs::Lists::turned, crate::proofs::Lists::twice))]
+#[tactic(auto, using(crate::proofs::KeptBlocks::Lists::turned, crate::proofs::KeptBlocks::Lists::twice))]
 fn append(alloc: Global, to: &mut Insts, insts: Insts) -> Result<(), AllocError>
     ensures { OnOk result (to.new ≡ to.old ++ insts) }
 {
@@ -66,7 +66,7 @@ fn joined(alloc: Global, a: Block, b: Block) -> Result<Block, AllocError>
 }
 
 /// Joins a block to the last one, where control falls into it, and else drops it.
-#[tactic(auto, using(crate::proofs::Lists::last_joined))]
+#[tactic(auto, using(crate::proofs::KeptBlocks::Lists::last_joined))]
 fn join(alloc: Global, out: &mut Blocks, b: Block) -> Result<(), AllocError>
     ensures { OnOk result (out.new ≡ with_joined out.old b) }
 {
@@ -94,7 +94,7 @@ fn put(alloc: Global, out: &mut Blocks, begin: bool, b: Block) -> Result<(), All
 }
 
 /// Blocks, by which of them begin.
-#[tactic(auto, using(crate::proofs::Lists::last_first, crate::proofs::Lists::twice))]
+#[tactic(auto, using(crate::proofs::KeptBlocks::Lists::last_first, crate::proofs::KeptBlocks::Lists::twice))]
 fn with_blocks(alloc: Global, blocks: Blocks, flags: &[bool]) -> Result<Blocks, AllocError>
     ensures { IfOk result (λ bs. bs ≡ with_blocks [] flags.now blocks) }
 {

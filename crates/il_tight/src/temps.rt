@@ -285,7 +285,7 @@ fn put_lacking_at(
 }
 
 /// The same of all temporaries that instructions set, which are set from then on.
-#[tactic(auto, using(crate::proofs::Lists::regroup))]
+#[tactic(auto, using(crate::proofs::KeptBlocks::Lists::regroup))]
 fn put_lacking<'a>(
     alloc: Global,
     out: &mut Insts,
@@ -306,7 +306,7 @@ fn put_lacking<'a>(
 }
 
 /// The same of all temporaries that blocks set which do not stay.
-#[tactic(auto, using(crate::proofs::Lists::regroup))]
+#[tactic(auto, using(crate::proofs::KeptBlocks::Lists::regroup))]
 fn put_all_lacking<'a>(
     alloc: Global,
     out: &mut Insts,
@@ -360,7 +360,7 @@ fn stops(blocks: &[Block]) -> bool
 }
 
 /// A block of instructions with a label, if there are some.
-#[tactic(auto, using(crate::proofs::Lists::not_labelled, crate::proofs::Lists::is_labelled))]
+#[tactic(auto, using(crate::proofs::KeptBlocks::Lists::not_labelled, crate::proofs::KeptBlocks::Lists::is_labelled))]
 fn labelled(alloc: Global, label: &Text, insts: Insts) -> Result<Option<Block>, AllocError>
     ensures { IfOk result (λ b. option_to_list b ≡ labelled label.now insts) }
 {

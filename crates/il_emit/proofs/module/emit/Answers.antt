@@ -11,8 +11,8 @@ use Rattle.il_emit.proofs.Shapes.{shape}
 use Rattle.il_emit.proofs.Tightened.{tight_reaches, tight_shape}
 use Rattle.il_emit.specs.Emitted.{module_of}
 use Rattle.il_tight.specs.Tightness.{AreTight}
-use Rattle.il_tight.proofs.Tightness.{all_tight}
-use Rattle.il_tight.proofs.Valid.{valid_same}
+use Rattle.il_tight.proofs.TightBlocks.Tightness.{all_tight}
+use Rattle.il_tight.proofs.StillValid.Valid.{valid_same}
 use Rattle.il_emit.proofs.module.emit.Goals as goal
 
 pub returns-clause-valid : goal.returns-clause-valid

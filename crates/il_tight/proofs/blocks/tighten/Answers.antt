@@ -1,7 +1,7 @@
 -- The blocks are tight.
 use Rattle.std.proofs.Common.{subst, sym}
 use Rattle.il_tight.specs.Tightness.{IsTight}
-use Rattle.il_tight.proofs.Tightness.{tight_is_tight}
+use Rattle.il_tight.proofs.TightBlocks.Tightness.{tight_is_tight}
 use Rattle.il_tight.proofs.blocks.tighten.Goals as goal
 
 pub returns-clause-tightness : goal.returns-clause-tightness

@@ -11,8 +11,8 @@ use Rattle.il_code.specs.declared.types.Inst.TheVariants.{Set, Store, Blit, Call
 use Rattle.il_code.specs.declared.types.Jump.{Jump}
 use Rattle.il_code.specs.declared.types.Jump.TheVariants.{Fall, Jmp, Jnz, Ret, Hlt}
 use Rattle.il_tight.specs.Tight.{Known, is_known, with_value, with_option, with_args, with_inst, with_insts, with_jump, with_reads, read_by, reached}
-use Rattle.il_tight.proofs.Passing.{both_true, all_more}
-use Rattle.il_tight.proofs.Staying.{Grows, name_grows, name_known}
+use Rattle.il_tight.proofs.TightBlocks.Passing.{both_true, all_more}
+use Rattle.il_tight.proofs.KeptBlocks.Staying.{Grows, name_grows, name_known}
 
 -- ---- every temporary that is read passes a test
 

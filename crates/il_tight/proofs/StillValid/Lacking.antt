@@ -18,10 +18,10 @@ use Rattle.il_code.specs.Rules as rule
 use Rattle.il_code.specs.Rules.{block_sets, inst_sets, same_class}
 use Rattle.il_code.specs.Shaped.{falls}
 use Rattle.il_tight.specs.Tight.{Known, is_known, with_setting, with_settings, reached, dropped, keeps_settings, set_by, read_by, zero, lacking_one, lacking_at, lacking, all_lacking, stops, last_block, unset}
-use Rattle.il_tight.proofs.Behind.{Apart, dropped_apart}
-use Rattle.il_tight.proofs.Passing.{both_true}
-use Rattle.il_tight.proofs.Settings.{AtClass, or_left, or_right, block_plain, one_setting, settings}
-use Rattle.il_tight.proofs.Twins.{Plain}
+use Rattle.il_tight.proofs.KeptBlocks.Behind.{Apart, dropped_apart}
+use Rattle.il_tight.proofs.TightBlocks.Passing.{both_true}
+use Rattle.il_tight.proofs.TightBlocks.Settings.{AtClass, or_left, or_right, block_plain, one_setting, settings}
+use Rattle.il_tight.proofs.SameRuns.Twins.{Plain}
 
 -- ---- blocks that stay, and the others
 

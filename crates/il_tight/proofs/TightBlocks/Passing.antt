@@ -13,7 +13,7 @@ use Rattle.il_code.specs.Rules.{how_many, has_label, targets_pass}
 use Rattle.il_code.specs.Shaped.{ends, falls}
 use Rattle.hx_table.proofs.TableLemmas.{same_name}
 use Rattle.il_tight.specs.Tight.{reached, is_closed}
-use Rattle.il_tight.proofs.Kept.{into_insts, into_jump, whole, kept}
+use Rattle.il_tight.proofs.KeptBlocks.Kept.{into_insts, into_jump, whole, kept}
 
 pub both_true : (a b : Bool) → a ≡ true → b ≡ true → (a && b) ≡ true
 both_true a b ha hb = rw (ha, hb) refl

@@ -15,11 +15,11 @@ use Rattle.il_code.specs.Rules.{targets_pass}
 use Rattle.il_code.specs.Shaped.{ends, falls}
 use Rattle.il_tight.specs.Tight.{Known, is_known, with_name, with_targets, wanted_from, closed_from, is_closed, dropped, keeps_settings, set_by, read_by, all_lacking, stops, last_block, unset, staying, tight, tight_item}
 use Rattle.il_tight.specs.Tightness.{names, is_named, IsLed, starts, falls_in, jumps_in, AreLed, IsZero, AreUnset, no_block, one_block, IsTight, ItemIsTight}
-use Rattle.il_tight.proofs.Behind.{Apart, all_zeros, dropped_apart, ends_stops}
-use Rattle.il_tight.proofs.Kept.{into_jump, whole, kept, tight_is}
-use Rattle.il_tight.proofs.Passing.{stays_kept, targets_kept, whole_ends}
-use Rattle.il_tight.proofs.Settings.{or_left, or_right, named_added}
-use Rattle.il_tight.proofs.Staying.{wanted_grows, closed_grows, staying_first, staying_closed}
+use Rattle.il_tight.proofs.KeptBlocks.Behind.{Apart, all_zeros, dropped_apart, ends_stops}
+use Rattle.il_tight.proofs.KeptBlocks.Kept.{into_jump, whole, kept, tight_is}
+use Rattle.il_tight.proofs.TightBlocks.Passing.{stays_kept, targets_kept, whole_ends}
+use Rattle.il_tight.proofs.TightBlocks.Settings.{or_left, or_right, named_added}
+use Rattle.il_tight.proofs.KeptBlocks.Staying.{wanted_grows, closed_grows, staying_first, staying_closed}
 
 -- ---- what is known holds
 

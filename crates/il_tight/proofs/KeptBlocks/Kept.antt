@@ -9,8 +9,8 @@ use Rattle.il_code.specs.declared.types.Phi.{Phi}
 use Rattle.il_code.specs.declared.types.Jump.TheVariants.{Fall, Jmp, Jnz, Ret, Hlt}
 use Rattle.il_code.specs.Shaped.{falls}
 use Rattle.il_tight.specs.Tight.{joined, with_blocks, begins, staying, unset, tight}
-use Rattle.il_tight.proofs.Lists.{last_joined}
-use Rattle.il_tight.proofs.Staying.{staying_first}
+use Rattle.il_tight.proofs.KeptBlocks.Lists.{last_joined}
+use Rattle.il_tight.proofs.KeptBlocks.Staying.{staying_first}
 
 -- the instructions that control comes to behind a block
 abbrev pub into_insts : (List ℕ → Bool) → Bool → List Block → List Inst

@@ -6,11 +6,11 @@ use Rattle.il_code.specs.declared.types.IlParam.{IlParam}
 use Rattle.il_code.specs.Machine.{call_cost}
 use Rattle.il_code.specs.Rules.{targets_pass}
 use Rattle.il_tight.specs.Tight.{staying, unset}
-use Rattle.il_tight.proofs.Behind.{unset_apart, unset_sealed, unset_zeros}
-use Rattle.il_tight.proofs.Kept.{kept, tight_is}
-use Rattle.il_tight.proofs.Light.{price}
-use Rattle.il_tight.proofs.Twins.{Plain, Landing, IsSound, nowhere_lands, block_lands, closed_here, IsWhole}
-use Rattle.il_tight.proofs.Staying.{first_stays, staying_first, staying_closed}
+use Rattle.il_tight.proofs.KeptBlocks.Behind.{unset_apart, unset_sealed, unset_zeros}
+use Rattle.il_tight.proofs.KeptBlocks.Kept.{kept, tight_is}
+use Rattle.il_tight.proofs.SameRuns.Light.{price}
+use Rattle.il_tight.proofs.SameRuns.Twins.{Plain, Landing, IsSound, nowhere_lands, block_lands, closed_here, IsWhole}
+use Rattle.il_tight.proofs.KeptBlocks.Staying.{first_stays, staying_first, staying_closed}
 
 pub price_is : (params : List IlParam) (bs : List Block) →
     price params bs ≡ call_cost params (kept (staying bs) bs ++ unset params (staying bs) bs)

@@ -33,15 +33,17 @@ use Rattle.il_code.specs.Tokens.{is_identifier}
 use Rattle.il_code.proofs.Validates.{valid_is}
 use Rattle.hx_table.proofs.TableLemmas.{same_name, bytes_eq-same}
 use Rattle.il_tight.specs.Tight.{is_known, is_closed, dropped, keeps_settings, reached, read_by, staying, zero, unset, tight, tight_item, tight_module}
-use Rattle.il_tight.proofs.Behind.{Apart, unset_apart, stops_ends}
-use Rattle.il_tight.proofs.Kept.{kept, tight_is}
-use Rattle.il_tight.proofs.Lacking.{Settles, any_split, settings_at, unset_few, unset_passes, unset_sets}
-use Rattle.il_tight.proofs.Passing.{both_true, all_two, all_more, all_reached, reached_pass, stays_kept, targets_kept, label_kept, count_kept, whole_ends, ends_more}
-use Rattle.il_tight.proofs.ReadTemps.{value_passes, option_passes, args_pass, inst_passes, jump_passes, block_passes, reads_known}
-use Rattle.il_tight.proofs.Runs.{NoPhis, functions_same}
-use Rattle.il_tight.proofs.Settings.{AtClass, or_left, or_right, sets_reached, all_reached_set, any_reached, set_at}
-use Rattle.il_tight.proofs.Twins.{Plain, plain_kept, plain_append, unset_plain, SameCode, no_code, one_code}
-use Rattle.il_tight.proofs.Staying.{staying_first, staying_closed}
+use Rattle.il_tight.proofs.KeptBlocks.Behind.{Apart, unset_apart, stops_ends}
+use Rattle.il_tight.proofs.KeptBlocks.Kept.{kept, tight_is}
+use Rattle.il_tight.proofs.StillValid.Lacking.{Settles, any_split, settings_at, unset_few, unset_passes, unset_sets}
+use Rattle.il_tight.proofs.TightBlocks.Passing.{both_true, all_two, all_more, all_reached, reached_pass, stays_kept, targets_kept}
+use Rattle.il_tight.proofs.TightBlocks.Passing.{label_kept, count_kept, whole_ends, ends_more}
+use Rattle.il_tight.proofs.StillValid.ReadTemps.{value_passes, option_passes, args_pass, inst_passes, jump_passes, block_passes}
+use Rattle.il_tight.proofs.StillValid.ReadTemps.{reads_known}
+use Rattle.il_tight.proofs.SameRuns.Runs.{NoPhis, functions_same}
+use Rattle.il_tight.proofs.TightBlocks.Settings.{AtClass, or_left, or_right, sets_reached, all_reached_set, any_reached, set_at}
+use Rattle.il_tight.proofs.SameRuns.Twins.{Plain, plain_kept, plain_append, unset_plain, SameCode, no_code, one_code}
+use Rattle.il_tight.proofs.KeptBlocks.Staying.{staying_first, staying_closed}
 
 -- ---- what is right
 

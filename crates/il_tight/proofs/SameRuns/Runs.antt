@@ -22,11 +22,12 @@ use Rattle.il_code.specs.State.{Code, function_named, Place}
 use Rattle.il_code.specs.Step.{Step, bound}
 use Rattle.il_code.specs.Run.{Run, after_step, further, after_steps, start_world, called_first, started, start}
 use Rattle.il_tight.specs.Tight.{staying, unset, tight, tight_item, tight_module}
-use Rattle.il_tight.proofs.Kept.{kept, tight_is}
-use Rattle.il_tight.proofs.Light as light
-use Rattle.il_tight.proofs.Light.{price}
-use Rattle.il_tight.proofs.Twins.{Plain, Pair, GoodPair, IsWhole, SameCode, no_code, one_code, SameStep, goes, ends, loose_state, tight_state, called_twin, nowhere_lands, step_same}
-use Rattle.il_tight.proofs.Wholes.{is_whole}
+use Rattle.il_tight.proofs.KeptBlocks.Kept.{kept, tight_is}
+use Rattle.il_tight.proofs.SameRuns.Light as light
+use Rattle.il_tight.proofs.SameRuns.Light.{price}
+use Rattle.il_tight.proofs.SameRuns.Twins.{Plain, Pair, GoodPair, IsWhole, SameCode, no_code, one_code, SameStep, goes, ends, loose_state}
+use Rattle.il_tight.proofs.SameRuns.Twins.{tight_state, called_twin, nowhere_lands, step_same}
+use Rattle.il_tight.proofs.SameRuns.Wholes.{is_whole}
 
 -- ---- two runs
 

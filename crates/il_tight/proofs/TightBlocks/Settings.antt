@@ -17,9 +17,9 @@ use Rattle.il_code.specs.Rules as rule
 use Rattle.il_code.specs.Rules.{block_sets, inst_sets, is_set, same_class}
 use Rattle.il_code.specs.Shaped.{falls}
 use Rattle.il_tight.specs.Tight.{Known, is_known, with_name, assigns, block_assigns, with_setting, with_settings, with_all_settings, with_params, set_by, reached, keeps_settings}
-use Rattle.il_tight.proofs.Kept.{into_insts, whole, kept}
-use Rattle.il_tight.proofs.Passing.{both_true}
-use Rattle.il_tight.proofs.Twins.{Plain}
+use Rattle.il_tight.proofs.KeptBlocks.Kept.{into_insts, whole, kept}
+use Rattle.il_tight.proofs.TightBlocks.Passing.{both_true}
+use Rattle.il_tight.proofs.SameRuns.Twins.{Plain}
 
 -- ---- two ways to be true
 

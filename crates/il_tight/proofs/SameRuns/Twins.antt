@@ -30,11 +30,11 @@ use Rattle.il_code.specs.Shaped.{falls}
 use Rattle.il_code.specs.State.{Place, place_at, start_of, blocks_from, Code, function_named, Frame, Waiting, Done, Jumped, Called, State}
 use Rattle.il_code.specs.Step.{Step, Goes, Ends, Kind, Takes, Loads, Computes, kind_of, value_of, second_value, arg_values, computed, loaded, took, taken, set_step, stored, blitted, overlap, runtime_step, runtime_call, call_step, enter, entered, bound, inst_step, returned, step}
 use Rattle.il_tight.specs.Tight.{is_closed, dropped, keeps_settings, all_lacking, read_by, set_by, stops, last_block, unset}
-use Rattle.il_tight.proofs.Behind.{Sealed, Apart, IsZeros, from_apart}
-use Rattle.il_tight.proofs.Kept.{into_insts, into_jump, whole, kept}
-use Rattle.il_tight.proofs.Light as light
-use Rattle.il_tight.proofs.Light.{price}
-use Rattle.il_tight.proofs.Staying.{first_stays}
+use Rattle.il_tight.proofs.KeptBlocks.Behind.{Sealed, Apart, IsZeros, from_apart}
+use Rattle.il_tight.proofs.KeptBlocks.Kept.{into_insts, into_jump, whole, kept}
+use Rattle.il_tight.proofs.SameRuns.Light as light
+use Rattle.il_tight.proofs.SameRuns.Light.{price}
+use Rattle.il_tight.proofs.KeptBlocks.Staying.{first_stays}
 
 -- no block has a phi
 abbrev pub Plain : List Block → Type 0
