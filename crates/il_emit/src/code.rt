@@ -18,7 +18,7 @@ use hx_base::{Class, Text};
 use std::alloc::AllocError;
 
 #[inline(never)]
-#[tactic(auto, using(crate::proofs::Emitting::go_emits))]
+#[tactic(auto, using(crate::proofs::Lines::Emitting::go_emits))]
 fn set(
     e: &mut Emitter,
     s: &Source,
@@ -39,7 +39,7 @@ fn set(
 }
 
 #[inline(never)]
-#[tactic(auto, using(crate::proofs::Emitting::go_emits))]
+#[tactic(auto, using(crate::proofs::Lines::Emitting::go_emits))]
 fn load(
     e: &mut Emitter,
     s: &Source,
@@ -57,7 +57,7 @@ fn load(
 }
 
 #[inline(never)]
-#[tactic(auto, using(crate::proofs::Emitting::go_emits))]
+#[tactic(auto, using(crate::proofs::Lines::Emitting::go_emits))]
 fn store(
     e: &mut Emitter,
     s: &Source,
@@ -76,7 +76,7 @@ fn store(
 }
 
 #[inline(never)]
-#[tactic(auto, using(crate::proofs::Emitting::go_emits))]
+#[tactic(auto, using(crate::proofs::Lines::Emitting::go_emits))]
 fn copy(
     e: &mut Emitter,
     s: &Source,
@@ -96,7 +96,7 @@ fn copy(
 
 /// Whether a side of an If has lines.
 #[inline(never)]
-#[tactic(auto, using(crate::proofs::Numbering::more_is))]
+#[tactic(auto, using(crate::proofs::NamesAndNumbers::Numbering::more_is))]
 fn has_lines(c: &Flat) -> bool
     ensures { result ≡ has_lines (code_of c.now) }
 {
@@ -249,7 +249,7 @@ fn single(e: &mut Emitter, s: &Source, c: &Flat, goal: Goal) -> Result<(), Alloc
 
 /// Emits a statement, behind which control goes to a goal.
 #[cycle(code)]
-#[tactic(auto, using(crate::proofs::Numbering::inner_next, crate::proofs::Numbering::first_next))]
+#[tactic(auto, using(crate::proofs::NamesAndNumbers::Numbering::inner_next, crate::proofs::NamesAndNumbers::Numbering::first_next))]
 pub fn code(e: &mut Emitter, s: &Source, c: &Flat, goal: Goal) -> Result<(), AllocError>
     ensures { OnOk result (Emits e.old e.new
         (code_lines s.now.program.now (code_of c.now) goal e.old.labels e.old.addresses e.old.exits.items)
@@ -293,7 +293,7 @@ fn repeat(e: &mut Emitter, s: &Source, body: &FlatBox, goal: Goal) -> Result<(),
 
 /// Emits a side of an If, if it has lines, behind its own label. Its goal is a label.
 #[cycle(code)]
-#[tactic(auto, using(crate::proofs::Numbering::no_labels, crate::proofs::Numbering::no_addresses))]
+#[tactic(auto, using(crate::proofs::NamesAndNumbers::Numbering::no_labels, crate::proofs::NamesAndNumbers::Numbering::no_addresses))]
 fn side(e: &mut Emitter, s: &Source, c: &Flat, goal: Goal, own: u64) -> Result<(), AllocError>
     requires { is_next goal ≡ false }
     ensures { OnOk result (Emits e.old e.new
@@ -321,7 +321,7 @@ fn in_front(kids: &FlatKids, next: usize, goal: Goal) -> Goal
 
 /// Ends a Seq of these statements, with this own label.
 #[inline(never)]
-#[tactic(auto, using(crate::proofs::Emitting::empty_is))]
+#[tactic(auto, using(crate::proofs::Lines::Emitting::empty_is))]
 fn end_seq(e: &mut Emitter, kids: &FlatKids, goal: Goal, n: u64) -> Result<(), AllocError>
     ensures { OnOk result (Emits e.old e.new (seq_end (not (is_more (codes_of kids.now))) goal n) 0 0
         (take (length e.old.exits.items - 1) e.old.exits.items)) }
@@ -332,7 +332,7 @@ fn end_seq(e: &mut Emitter, kids: &FlatKids, goal: Goal, n: u64) -> Result<(), A
 /// Emits a Seq.
 #[inline(never)]
 #[cycle(code)]
-#[tactic(auto, using(crate::proofs::Numbering::inner_next))]
+#[tactic(auto, using(crate::proofs::NamesAndNumbers::Numbering::inner_next))]
 fn seq(e: &mut Emitter, s: &Source, kids: &FlatKids, goal: Goal) -> Result<(), AllocError>
     ensures { OnOk result (Emits e.old e.new
         (code_lines s.now.program.now (Seq (codes_of kids.now)) goal e.old.labels e.old.addresses e.old.exits.items)

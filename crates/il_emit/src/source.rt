@@ -77,7 +77,7 @@ impl<'a> Source<'a> {
     }
 
     /// The first function with a name.
-    #[tactic(auto, using(crate::proofs::Sources::found_none, crate::proofs::Sources::found_some))]
+    #[tactic(auto, using(crate::proofs::NamesAndNumbers::Sources::found_none, crate::proofs::NamesAndNumbers::Sources::found_some))]
     fn find(&self, name: &[u8]) -> Option<&FlatFn>
         ensures { option_copied result ≡ function_named self.now.program.now.functions name.now }
     {

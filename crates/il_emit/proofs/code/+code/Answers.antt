@@ -3,7 +3,7 @@ use Rattle.std.proofs.Common.{sym, ◌∙◌}
 use Rattle.std.proofs.lemmas.Grind.{common_steps}
 use Rattle.std.proofs.Common.{arith}
 use Rattle.flat_code.specs.Code.{codes_of}
-use Rattle.il_emit.proofs.Emitting.{seq_emits, loop_emits, if_emits, kid_emits}
+use Rattle.il_emit.proofs.Lines.Emitting.{seq_emits, loop_emits, if_emits, kid_emits}
 use Rattle.il_emit.proofs.code.+code.Goals as goal
 use Rattle.il_emit.proofs.code.+code.Goals.{each-in-Some+in_ok-code, each-in_default}
 

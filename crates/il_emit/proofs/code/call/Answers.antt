@@ -1,5 +1,5 @@
 -- The way to the goal stands behind the call.
-use Rattle.il_emit.proofs.Emitting.{go_emits}
+use Rattle.il_emit.proofs.Lines.Emitting.{go_emits}
 use Rattle.il_emit.proofs.code.call.Goals as goal
 
 pub returns : goal.returns

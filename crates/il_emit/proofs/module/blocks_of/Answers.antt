@@ -1,6 +1,6 @@
 -- The blocks are those of the function's lines.
 use Rattle.std.proofs.Common.{refl, arith}
-use Rattle.il_emit.proofs.Emitting.{function_emits}
+use Rattle.il_emit.proofs.Lines.Emitting.{function_emits}
 use Rattle.il_emit.proofs.module.blocks_of.Goals as goal
 
 pub returns-clause-value : goal.returns-clause-value

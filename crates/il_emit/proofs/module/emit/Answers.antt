@@ -4,11 +4,11 @@ use Rattle.il_code.specs.declared.types.Module.{Module}
 use Rattle.il_code.specs.Rules.{IsValid}
 use Rattle.il_emit.specs.Reaches.{Reaches}
 use Rattle.il_emit.specs.Shape.{HasShape}
-use Rattle.il_emit.proofs.Arrivals.{reaches}
-use Rattle.il_emit.proofs.Lawful.{valid}
-use Rattle.il_emit.proofs.Phis.{module_plain}
-use Rattle.il_emit.proofs.Shapes.{shape}
-use Rattle.il_emit.proofs.Tightened.{tight_reaches, tight_shape}
+use Rattle.il_emit.proofs.SameRuns.Arrivals.{reaches}
+use Rattle.il_emit.proofs.ValidModule.Lawful.{valid}
+use Rattle.il_emit.proofs.SameShape.Phis.{module_plain}
+use Rattle.il_emit.proofs.SameShape.Shapes.{shape}
+use Rattle.il_emit.proofs.SameRuns.Tightened.{tight_reaches, tight_shape}
 use Rattle.il_emit.specs.Emitted.{module_of}
 use Rattle.il_tight.specs.Tightness.{AreTight}
 use Rattle.il_tight.proofs.TightBlocks.Tightness.{all_tight}

@@ -1,5 +1,5 @@
 -- The items are those of the globals and then those of the functions, which are tight.
-use Rattle.il_emit.proofs.Tightened.{module_emits}
+use Rattle.il_emit.proofs.SameRuns.Tightened.{module_emits}
 use Rattle.il_emit.proofs.module.module_of.Goals as goal
 
 pub returns-clause-value : goal.returns-clause-value

@@ -1,6 +1,6 @@
 -- The call stands behind what computes the addresses of its arguments.
 use Rattle.std.proofs.Common.{refl}
-use Rattle.il_emit.proofs.Emitting.{call_emits}
+use Rattle.il_emit.proofs.Lines.Emitting.{call_emits}
 use Rattle.il_emit.proofs.emitter.Emitter.call.Goals as goal
 
 pub returns : goal.returns
