@@ -1,4 +1,4 @@
-use Rattle.hare_turns.proofs.JudgedLemmas.{bodies_stop}
+use Rattle.hare_turns.proofs.LaterStores.Judged.{bodies_stop}
 use Rattle.hare_turns.proofs.course.law_bodies_stop.Goals as goal
 
 pub returns : goal.returns

@@ -1,4 +1,4 @@
-use Rattle.hare_turns.proofs.OverLemmas.{ends_are_judged}
+use Rattle.hare_turns.proofs.AllSteps.Over.{ends_are_judged}
 use Rattle.hare_turns.proofs.course.law_ends_are_judged.Goals as goal
 
 pub returns : goal.returns

@@ -1,4 +1,4 @@
-use Rattle.hare_turns.proofs.CourseLemmas.{steps_stop}
+use Rattle.hare_turns.proofs.AllSteps.InOrder.{steps_stop}
 use Rattle.hare_turns.proofs.course.law_steps_stop.Goals as goal
 
 pub returns : goal.returns

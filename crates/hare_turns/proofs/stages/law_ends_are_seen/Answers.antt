@@ -1,4 +1,4 @@
-use Rattle.hare_turns.proofs.EndLemmas.{ends_are_seen}
+use Rattle.hare_turns.proofs.LaterStores.Ends.{ends_are_seen}
 use Rattle.hare_turns.proofs.stages.law_ends_are_seen.Goals as goal
 
 pub returns : goal.returns

@@ -1,4 +1,4 @@
-use Rattle.hare_turns.proofs.CourseLemmas.{stages_begin}
+use Rattle.hare_turns.proofs.AllSteps.InOrder.{stages_begin}
 use Rattle.hare_turns.proofs.stages.law_stages_begin.Goals as goal
 
 pub returns : goal.returns

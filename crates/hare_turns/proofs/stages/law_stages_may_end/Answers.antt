@@ -1,4 +1,4 @@
-use Rattle.hare_turns.proofs.OverLemmas.{stages_may_end}
+use Rattle.hare_turns.proofs.AllSteps.Over.{stages_may_end}
 use Rattle.hare_turns.proofs.stages.law_stages_may_end.Goals as goal
 
 pub returns : goal.returns

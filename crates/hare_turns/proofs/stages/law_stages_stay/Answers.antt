@@ -1,4 +1,4 @@
-use Rattle.hare_turns.proofs.JudgedLemmas.{stages_stay}
+use Rattle.hare_turns.proofs.LaterStores.Judged.{stages_stay}
 use Rattle.hare_turns.proofs.stages.law_stages_stay.Goals as goal
 
 pub returns : goal.returns

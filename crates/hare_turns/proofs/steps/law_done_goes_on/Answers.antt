@@ -1,4 +1,4 @@
-use Rattle.hare_turns.proofs.DoneLemmas.{done_goes_on}
+use Rattle.hare_turns.proofs.OneStep.Done.{done_goes_on}
 use Rattle.hare_turns.proofs.steps.law_done_goes_on.Goals as goal
 
 pub returns : goal.returns

@@ -1,4 +1,4 @@
-use Rattle.hare_turns.proofs.DoneLemmas.{done_stops}
+use Rattle.hare_turns.proofs.OneStep.Done.{done_stops}
 use Rattle.hare_turns.proofs.steps.law_done_stops.Goals as goal
 
 pub returns : goal.returns

@@ -1,4 +1,4 @@
-use Rattle.hare_turns.proofs.StepLemmas.{types_go_on}
+use Rattle.hare_turns.proofs.OneStep.Passed.{types_go_on}
 use Rattle.hare_turns.proofs.steps.law_types_go_on.Goals as goal
 
 pub returns : goal.returns

@@ -1,4 +1,4 @@
-use Rattle.hare_turns.proofs.StopLemmas.{types_stop}
+use Rattle.hare_turns.proofs.OneStep.Faults.{types_stop}
 use Rattle.hare_turns.proofs.steps.law_types_stop.Goals as goal
 
 pub returns : goal.returns

@@ -1,4 +1,4 @@
-use Rattle.hare_turns.proofs.StepLemmas.{value_goes_on}
+use Rattle.hare_turns.proofs.OneStep.Passed.{value_goes_on}
 use Rattle.hare_turns.proofs.steps.law_value_goes_on.Goals as goal
 
 pub returns : goal.returns

@@ -1,4 +1,4 @@
-use Rattle.hare_turns.proofs.StopLemmas.{value_stops}
+use Rattle.hare_turns.proofs.OneStep.Faults.{value_stops}
 use Rattle.hare_turns.proofs.steps.law_value_stops.Goals as goal
 
 pub returns : goal.returns

@@ -1,4 +1,4 @@
-use Rattle.hare_turns.proofs.TypesLemmas.{types_are_judged}
+use Rattle.hare_turns.proofs.OneStep.WrittenTypes.{types_are_judged}
 use Rattle.hare_turns.proofs.written.law_types_are_judged.Goals as goal
 
 pub returns : goal.returns

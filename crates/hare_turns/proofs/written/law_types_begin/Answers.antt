@@ -1,4 +1,4 @@
-use Rattle.hare_turns.proofs.TypesLemmas.{types_begin}
+use Rattle.hare_turns.proofs.OneStep.WrittenTypes.{types_begin}
 use Rattle.hare_turns.proofs.written.law_types_begin.Goals as goal
 
 pub returns : goal.returns

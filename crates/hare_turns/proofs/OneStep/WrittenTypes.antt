@@ -19,9 +19,9 @@ use Rattle.hare_whole.specs.Listing.{Listing, Written}
 use Rattle.hare_whole.specs.Turns.{AreTyped, IsTypeFault, IsTypesFault}
 use Rattle.hare_turns.specs.Stages.{over, AreReadable}
 use Rattle.hare_turns.specs.Types.{IsTypeOf, TypesAreJudged, TypesBegin}
-use Rattle.hare_turns.proofs.ListLemmas.{Contains-nil, Contains-head, Contains-cons_cases, split_at}
-use Rattle.hare_turns.proofs.LaterLemmas.{IsLater-trans}
-use Rattle.hare_turns.proofs.SizeLemmas.{StandIn-later, AllFit-later}
+use Rattle.hare_turns.proofs.LaterStores.Lists.{Contains-nil, Contains-head, Contains-cons_cases, split_at}
+use Rattle.hare_turns.proofs.LaterStores.Stores.{IsLater-trans}
+use Rattle.hare_turns.proofs.LaterStores.Sizes.{StandIn-later, AllFit-later}
 
 -- ---- nodes of some types
 

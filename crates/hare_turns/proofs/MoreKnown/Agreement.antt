@@ -17,10 +17,10 @@ use Rattle.hare_whole.specs.Listing.{Listing, Written, written_types}
 use Rattle.hare_whole.specs.Declared.{over_type, over_value, before_type, before_value}
 use Rattle.hare_whole.specs.Turns.{IsTyped, AreTyped, IsTypeFault, IsTypesFault, hint_by, IsTypedValue}
 use Rattle.hare_turns.specs.Stages.{over, AreReadable, AreTypesOf, IsValueOf}
-use Rattle.hare_turns.proofs.ListLemmas.{Contains-head, Contains-tail}
-use Rattle.hare_turns.proofs.LaterLemmas.{IsLater-refl}
-use Rattle.hare_turns.proofs.KnownLemmas.{AreOfProgram, AreReadable-more, says_the_same}
-use Rattle.hare_turns.proofs.RowLemmas.{first_failing-told}
+use Rattle.hare_turns.proofs.LaterStores.Lists.{Contains-head, Contains-tail}
+use Rattle.hare_turns.proofs.LaterStores.Stores.{IsLater-refl}
+use Rattle.hare_turns.proofs.MoreKnown.Declarations.{AreOfProgram, AreReadable-more, says_the_same}
+use Rattle.hare_turns.proofs.MoreKnown.Rows.{first_failing-told}
 
 -- what paths of written types say stays as it is
 abbrev AreAllReadable : Listing → List DeclType → List Written → Type 0

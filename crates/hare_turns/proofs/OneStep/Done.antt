@@ -26,10 +26,10 @@ use Rattle.hare_whole.specs.Parts.{written_id}
 use Rattle.hare_whole.specs.Turns.{Stage, Done, is_seen, seen, setting_at, typed_at, IsTyped, AreTyped, IsTypeFault, IsTypesFault, IsDefinedAs, with_done, IsLateFault, Passes, Fails}
 use Rattle.hare_turns.specs.Stages.{IsEnd, IsStage, AreTypesOf}
 use Rattle.hare_turns.specs.Laws.{IsSeenAt, DeclaresTheSame, IsGrownTo, DefinesOneMore, EndsAreSeen, GoesOn, IsDoneBy, DoneGoesOn, DoneStops}
-use Rattle.hare_turns.proofs.ListLemmas.{Contains-cons_cases, slice_get-same}
-use Rattle.hare_turns.proofs.SizeLemmas.{AllFit-later, IsFirstLarge-later}
-use Rattle.hare_turns.proofs.EndLemmas.{DefinesDone, seen_at}
-use Rattle.hare_turns.proofs.JudgedLemmas.{AreTypesOf-later, IsValueOf-later, IsDeclared-later, DefinesNomem-later}
+use Rattle.hare_turns.proofs.LaterStores.Lists.{Contains-cons_cases, slice_get-same}
+use Rattle.hare_turns.proofs.LaterStores.Sizes.{AllFit-later, IsFirstLarge-later}
+use Rattle.hare_turns.proofs.LaterStores.Ends.{DefinesDone, seen_at}
+use Rattle.hare_turns.proofs.LaterStores.Judged.{AreTypesOf-later, IsValueOf-later, IsDeclared-later, DefinesNomem-later}
 
 -- ---- what is seen once one more is done
 

@@ -22,7 +22,7 @@ use Rattle.hare_whole.specs.Parts.{written_id}
 use Rattle.hare_whole.specs.Turns.{Stage, is_seen, seen, typed_at}
 use Rattle.hare_turns.specs.Stages.{IsEnd, IsStage}
 use Rattle.hare_turns.specs.Laws.{IsSeenAt, EndsAreSeen}
-use Rattle.hare_turns.proofs.ListLemmas.{Contains-from_among}
+use Rattle.hare_turns.proofs.LaterStores.Lists.{Contains-from_among}
 
 -- the store defines the types that are done, and `rt::nomem`, and no others
 pub record DefinesDone (p : Listing) (s : Store) (g : Stage) : Type 0 where

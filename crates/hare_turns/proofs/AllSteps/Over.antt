@@ -18,12 +18,12 @@ use Rattle.hare_whole.specs.Turns.{Stage, Step, Types, Done, early, value_steps,
 use Rattle.hare_turns.specs.Stages.{IsEnd}
 use Rattle.hare_turns.specs.Ends.{AreJudgedTo}
 use Rattle.hare_turns.specs.Judged.{StagesMayEnd, AreJudgedOver, EndsAreJudged}
-use Rattle.hare_turns.proofs.ListLemmas.{Contains-nil, Contains-head, Contains-tail, Contains-cons_cases}
-use Rattle.hare_turns.proofs.SizeLemmas.{AllFit-later}
-use Rattle.hare_turns.proofs.EndLemmas.{declared_from_defined}
-use Rattle.hare_turns.proofs.StepLemmas.{itself_ends}
-use Rattle.hare_turns.proofs.CourseLemmas.{in_order}
-use Rattle.hare_turns.proofs.ToldLemmas.{typed_at-among}
+use Rattle.hare_turns.proofs.LaterStores.Lists.{Contains-nil, Contains-head, Contains-tail, Contains-cons_cases}
+use Rattle.hare_turns.proofs.LaterStores.Sizes.{AllFit-later}
+use Rattle.hare_turns.proofs.LaterStores.Ends.{declared_from_defined}
+use Rattle.hare_turns.proofs.OneStep.Passed.{itself_ends}
+use Rattle.hare_turns.proofs.AllSteps.InOrder.{in_order}
+use Rattle.hare_turns.proofs.AllSteps.Told.{typed_at-among}
 
 pub stages_may_end : StagesMayEnd
 stages_may_end = itself_ends

@@ -10,8 +10,8 @@ use Rattle.hare_typed.specs.Typed.{TypedNode}
 use Rattle.hare_rules.specs.Aggregates.{is_small}
 use Rattle.hare_seen.specs.Seen.{MeasuresTheSame}
 use Rattle.hare_seen.specs.Sizes.{is_small_at, size_row, size_row_by, FitsAs, IsLargeNode, nodes_of_types, AllFit, StandIn, IsFirstLarge}
-use Rattle.hare_turns.proofs.ListLemmas.{Contains-head}
-use Rattle.hare_turns.proofs.LaterLemmas.{row_at-later, within-later}
+use Rattle.hare_turns.proofs.LaterStores.Lists.{Contains-head}
+use Rattle.hare_turns.proofs.LaterStores.Stores.{row_at-later, within-later}
 
 -- the types stand in each later store
 pub StandIn-later : (s f : Store) → IsLater s f → (ts : List TypedNode) → StandIn s ts → StandIn f ts

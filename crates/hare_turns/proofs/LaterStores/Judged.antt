@@ -15,8 +15,8 @@ use Rattle.hare_whole.specs.Turns.{seen}
 use Rattle.hare_turns.specs.Stages.{AreTypesOf, IsValueOf}
 use Rattle.hare_turns.specs.Laws.{DeclaresTheSame, EndsAreSeen, StagesStay}
 use Rattle.hare_turns.specs.Ends.{BodiesStop}
-use Rattle.hare_turns.proofs.LaterLemmas.{IsLater-trans}
-use Rattle.hare_turns.proofs.SizeLemmas.{StandIn-later, AllFit-later}
+use Rattle.hare_turns.proofs.LaterStores.Stores.{IsLater-trans}
+use Rattle.hare_turns.proofs.LaterStores.Sizes.{StandIn-later, AllFit-later}
 
 -- ---- in later stores
 

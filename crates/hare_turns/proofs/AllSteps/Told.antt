@@ -25,10 +25,10 @@ use Rattle.hare_whole.specs.Turns.{Stage, setting_at, typed_at, AreTyped, plain_
 use Rattle.hare_turns.specs.Stages.{IsEnd, IsStage, over, known_of}
 use Rattle.hare_turns.specs.Laws.{IsNewIn, IsUnknownConstant}
 use Rattle.hare_turns.specs.Known.{IsSaidByTypes, IsSaidByValue, IsKnownAs, KnownBegins, StagesAreKnown}
-use Rattle.hare_turns.proofs.ListLemmas.{Contains-nil, Contains-head, Contains-tail, Contains-cons_cases, slice_get-same}
-use Rattle.hare_turns.proofs.LaterLemmas.{IsLater-refl, IsLater-trans}
-use Rattle.hare_turns.proofs.KnownLemmas.{known_of-more}
-use Rattle.hare_turns.proofs.StepLemmas.{typed_at-other}
+use Rattle.hare_turns.proofs.LaterStores.Lists.{Contains-nil, Contains-head, Contains-tail, Contains-cons_cases, slice_get-same}
+use Rattle.hare_turns.proofs.LaterStores.Stores.{IsLater-refl, IsLater-trans}
+use Rattle.hare_turns.proofs.MoreKnown.Declarations.{known_of-more}
+use Rattle.hare_turns.proofs.OneStep.Passed.{typed_at-other}
 
 -- ---- what is found
 

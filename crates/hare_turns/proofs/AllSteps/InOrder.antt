@@ -16,9 +16,9 @@ use Rattle.hare_depends.specs.Sorts.{sort_of, has_value}
 use Rattle.hare_whole.specs.Listing.{Listing, IsDecl}
 use Rattle.hare_whole.specs.Turns.{Stage, Step, Types, Value, Done, early, value_steps, turn, AreSteps, AreAllSteps, Passes, Goes}
 use Rattle.hare_turns.specs.Course.{StagesBegin, StepsGoTogether, StepsStop, StagesEnd}
-use Rattle.hare_turns.proofs.ListLemmas.{Contains-nil, Contains-head, Contains-tail, Contains-cons_cases, Contains-map, Contains-from_among, among_from_Contains, slice_get-same}
-use Rattle.hare_turns.proofs.LaterLemmas.{IsLater-trans}
-use Rattle.hare_turns.proofs.StepLemmas.{itself_ends}
+use Rattle.hare_turns.proofs.LaterStores.Lists.{Contains-nil, Contains-head, Contains-tail, Contains-cons_cases, Contains-map, Contains-from_among, among_from_Contains, slice_get-same}
+use Rattle.hare_turns.proofs.LaterStores.Stores.{IsLater-trans}
+use Rattle.hare_turns.proofs.OneStep.Passed.{itself_ends}
 
 -- ---- the first stage
 

@@ -19,11 +19,11 @@ use Rattle.hare_whole.specs.Parts.{written_id}
 use Rattle.hare_whole.specs.Turns.{Stage, Types, Value, seen, setting_at, typed_at, type_or_plain, known_by_types, known_by_value, with_types, with_value, Passes}
 use Rattle.hare_turns.specs.Stages.{IsEnd, IsStage, AreTypesOf, IsValueOf}
 use Rattle.hare_turns.specs.Laws.{EndsAreSeen, IsNewIn, TypesGoOn, ValueGoesOn}
-use Rattle.hare_turns.proofs.ListLemmas.{Contains-cons_cases, slice_get-same}
-use Rattle.hare_turns.proofs.LaterLemmas.{IsLater-refl}
-use Rattle.hare_turns.proofs.SizeLemmas.{AllFit-later}
-use Rattle.hare_turns.proofs.KnownLemmas.{AreOfProgram, known_by_types-of_program, known_by_value-of_program}
-use Rattle.hare_turns.proofs.AgreeLemmas.{AreTypesOf-more, IsValueOf-more}
+use Rattle.hare_turns.proofs.LaterStores.Lists.{Contains-cons_cases, slice_get-same}
+use Rattle.hare_turns.proofs.LaterStores.Stores.{IsLater-refl}
+use Rattle.hare_turns.proofs.LaterStores.Sizes.{AllFit-later}
+use Rattle.hare_turns.proofs.MoreKnown.Declarations.{AreOfProgram, known_by_types-of_program, known_by_value-of_program}
+use Rattle.hare_turns.proofs.MoreKnown.Agreement.{AreTypesOf-more, IsValueOf-more}
 
 -- the checking may end with the store as it is
 pub itself_ends : (p : Listing) (s : Store) (g : Stage) (vs : List (ℕ × TypedNode)) → IsStage p s g vs → IsEnd p s s
