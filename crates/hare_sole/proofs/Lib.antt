@@ -1,13 +1,3 @@
-mod Borrowed
-mod Found
-mod StepLemmas
-mod CourseLemmas
-mod BodyLemmas
-mod LimitLemmas
-mod PartLemmas
-mod BindingLemmas
-mod FunctionLemmas
-mod DeclLemmas
-mod SaidLemmas
-mod OrderLemmas
-mod PhaseLemmas
+mod OneTree
+mod OneFault
+mod OneProgram

@@ -1,6 +1,6 @@
-use Rattle.hare_sole.proofs.StepLemmas.{Inference}
-use Rattle.hare_sole.proofs.PartLemmas.{Trees}
-use Rattle.hare_sole.proofs.PhaseLemmas.{Orders, phase_faults_are_one, checked_or_faulty, limits_are_left}
+use Rattle.hare_sole.proofs.OneFault.Steps.{Inference}
+use Rattle.hare_sole.proofs.OneTree.Parts.{Trees}
+use Rattle.hare_sole.proofs.OneProgram.Phases.{Orders, phase_faults_are_one, checked_or_faulty, limits_are_left}
 use Rattle.hare_sole.proofs.laws.law_one_fault_of_phases.Goals as goal
 
 pub returns-clause-one : goal.returns-clause-one

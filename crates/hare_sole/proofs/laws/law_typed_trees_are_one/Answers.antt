@@ -1,4 +1,4 @@
-use Rattle.hare_sole.proofs.PhaseLemmas.{trees_are_one}
+use Rattle.hare_sole.proofs.OneProgram.Phases.{trees_are_one}
 use Rattle.hare_sole.proofs.laws.law_typed_trees_are_one.Goals as goal
 
 pub returns : goal.returns

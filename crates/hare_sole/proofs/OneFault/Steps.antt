@@ -16,7 +16,7 @@ use Rattle.hare_modules.specs.Uses.{kid}
 use Rattle.hare_whole.specs.Listing.{Listing, Written, IsDecl, written_types}
 use Rattle.hare_whole.specs.Declared.{over_type, over_value, before_type, before_value}
 use Rattle.hare_whole.specs.Turns.{Stage, Step, setting_at, typed_at, hint_by, IsTyped, AreTyped, IsTypeFault, IsTypesFault, IsTypedValue, context_of, IsValueFault, with_types, with_value, with_done, IsLateFault, Passes, Fails}
-use Rattle.hare_sole.proofs.Borrowed.{one_bare}
+use Rattle.hare_sole.proofs.OneTree.Borrowed.{one_bare}
 
 -- what inference says
 pub record Inference : Type 0 where

@@ -13,9 +13,9 @@ use Rattle.hare_depends.specs.declared.said.Sort.TheVariants as so
 use Rattle.hare_depends.specs.Sorts.{sort_of, sort_by, sort_of_global, has_type}
 use Rattle.hare_whole.specs.Parts.{type_part, value_part, written_id, def_known, global_known, known_by, known_as, is_mutable, declared_id, id_or_zero}
 use Rattle.hare_whole.specs.Declared.{IsWellBinding, IsWellBy, IsWellDecl}
-use Rattle.hare_sole.proofs.PartLemmas.{Trees, Pair, one, two, SaySame, head-erased, heads-same}
-use Rattle.hare_sole.proofs.BindingLemmas.{AgreeOnKid, type_part-same, value_part-same, binding-same, type-there, type_decl-same}
-use Rattle.hare_sole.proofs.FunctionLemmas.{function_known-same, function-same}
+use Rattle.hare_sole.proofs.OneTree.Parts.{Trees, Pair, one, two, SaySame, head-erased, heads-same}
+use Rattle.hare_sole.proofs.OneTree.Bindings.{AgreeOnKid, type_part-same, value_part-same, binding-same, type-there, type_decl-same}
+use Rattle.hare_sole.proofs.OneTree.Functions.{function_known-same, function-same}
 
 -- both say the same of what these two parts of a declaration name
 pub record AgreeOnParts (k : Pair) (t : Node) : Type 0 where

@@ -26,7 +26,7 @@ use Rattle.hare_agree.specs.Laws.{IsAgreed, ValuesAreEnough}
 use Rattle.hare_depends.proofs.ListLemmas.{Contains-left, Contains-right}
 use Rattle.hare_turns.specs.Stages.{known_of}
 use Rattle.hare_whole.specs.Declared.{over_type, over_value, before_type, before_value, plain_mark, unnumbered, is_param, IsPlain, IsWellType, IsWellTypePart, IsWellValue, IsWellParam, AreWellParams}
-use Rattle.hare_sole.proofs.Borrowed.{one_bare, erase-unnumbered}
+use Rattle.hare_sole.proofs.OneTree.Borrowed.{one_bare, erase-unnumbered}
 
 -- what the laws say of trees
 pub record Trees : Type 0 where

@@ -9,7 +9,7 @@ use Rattle.hare_modules.specs.Uses.{kid}
 use Rattle.hare_depends.specs.Sorts.{has_type}
 use Rattle.hare_whole.specs.Parts.{type_part, value_part}
 use Rattle.hare_whole.specs.Declared.{hint_of_part, IsWellValue, IsWellBinding, IsWellTypeDecl}
-use Rattle.hare_sole.proofs.PartLemmas.{Trees, Pair, one, two, AgreeAmong, head-erased, plain-same, type-same, part-same, value-same}
+use Rattle.hare_sole.proofs.OneTree.Parts.{Trees, Pair, one, two, AgreeAmong, head-erased, plain-same, type-same, part-same, value-same}
 
 -- both say the same of what this kid of a tree names
 abbrev pub AgreeOnKid : Pair → Node → ℕ → Type 0

@@ -13,7 +13,7 @@ use Rattle.hare_typed.specs.Typed.{TypedNode}
 use Rattle.hare_typed.specs.Erased.{erase}
 use Rattle.hare_depends.proofs.ListLemmas.{Contains-there}
 use Rattle.hare_whole.specs.Limits.{IsEntryFault, no_main, odd_main, IsFramed, IsFirstOff, IsFrameFault, name_place, function_weight, global_bytes, IsWithin, IsSumFault, IsLimitFault, of_entry, of_frame, of_sum}
-use Rattle.hare_sole.proofs.Borrowed.{entry-sound}
+use Rattle.hare_sole.proofs.OneTree.Borrowed.{entry-sound}
 
 entry-fault-once : (paths : List (List ℕ)) (ts : List Node) (f e : Fault) → IsEntryFault paths ts f → IsEntryFault paths ts e → f ≡ e
 entry-fault-once paths ts f e (no_main a b) (no_main c d) = b ∙ sym d

@@ -6,7 +6,7 @@ use Rattle.hare_types.specs.Store.{Store}
 use Rattle.hare_depends.specs.Order.{OrdersAreOne}
 use Rattle.hare_whole.specs.Listing.{Listing, saids}
 use Rattle.hare_whole.specs.Turns.{Stage, Step, early, turn, AreSteps, start, Passes, Goes, Fails, AreAllSteps, IsDeclarationFault, AreJudged}
-use Rattle.hare_sole.proofs.StepLemmas.{Inference, decl-once, passes-once, passes-or-fails, fails-once}
+use Rattle.hare_sole.proofs.OneFault.Steps.{Inference, decl-once, passes-once, passes-or-fails, fails-once}
 
 -- ---- the steps are one list
 

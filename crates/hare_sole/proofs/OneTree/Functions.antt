@@ -11,8 +11,8 @@ use Rattle.hare_rules.specs.Finished.{IsWell}
 use Rattle.hare_modules.specs.Uses.{kid}
 use Rattle.hare_whole.specs.Parts.{result_part, type_of_param, written_id, function_known}
 use Rattle.hare_whole.specs.Declared.{over_body, before_body, param_ids, AreWellParams, IsWellFunction}
-use Rattle.hare_sole.proofs.PartLemmas.{Trees, Pair, one, two, AgreeAmong, agree-left, plain-same, type-same, well-same, params-same}
-use Rattle.hare_sole.proofs.BindingLemmas.{AgreeOnKid}
+use Rattle.hare_sole.proofs.OneTree.Parts.{Trees, Pair, one, two, AgreeAmong, agree-left, plain-same, type-same, well-same, params-same}
+use Rattle.hare_sole.proofs.OneTree.Bindings.{AgreeOnKid}
 
 -- what is known of a function by its tree
 abbrev pub known_of_function : ℕ → TypedNode → DeclType

@@ -16,8 +16,8 @@ use Rattle.hare_whole.specs.Listing.{Listing, IsDecl}
 use Rattle.hare_whole.specs.Declared.{over_body, before_body}
 use Rattle.hare_whole.specs.Turns.{Stage, setting_at, params_in, result_in, HasWellBody, IsFaultOfBody, IsBodyFault}
 use Rattle.hare_whole.specs.Judged.{AreFaultless}
-use Rattle.hare_sole.proofs.StepLemmas.{Inference, decl-once}
-use Rattle.hare_sole.proofs.CourseLemmas.{judged-once}
+use Rattle.hare_sole.proofs.OneFault.Steps.{Inference, decl-once}
+use Rattle.hare_sole.proofs.OneFault.Course.{judged-once}
 
 -- ---- one body
 

@@ -13,12 +13,12 @@ use Rattle.hare_whole.specs.Turns.{Stage, AreJudged, IsDeclarationFault}
 use Rattle.hare_limits.proofs.SoundLemmas.{limits-sound}
 use Rattle.hare_whole.specs.Judged.{AreFaultless, IsFaultOfPhases, of_circles, of_declarations, of_bodies, of_limits}
 use Rattle.hare_sole.specs.Checked.{AreChecked, PhaseFaultsAreOne, CheckedOrFaulty, LimitsAreLeft, TypedTreesAreOne}
-use Rattle.hare_sole.proofs.StepLemmas.{Inference}
-use Rattle.hare_sole.proofs.CourseLemmas.{declaration-once, declaration-or-judged}
-use Rattle.hare_sole.proofs.BodyLemmas.{body-once, body-or-faultless}
-use Rattle.hare_sole.proofs.LimitLemmas.{limit-once}
-use Rattle.hare_sole.proofs.PartLemmas.{Trees}
-use Rattle.hare_sole.proofs.OrderLemmas.{typed-once}
+use Rattle.hare_sole.proofs.OneFault.Steps.{Inference}
+use Rattle.hare_sole.proofs.OneFault.Course.{declaration-once, declaration-or-judged}
+use Rattle.hare_sole.proofs.OneFault.Bodies.{body-once, body-or-faultless}
+use Rattle.hare_sole.proofs.OneFault.Limits.{limit-once}
+use Rattle.hare_sole.proofs.OneTree.Parts.{Trees}
+use Rattle.hare_sole.proofs.OneProgram.Order.{typed-once}
 
 -- what the laws of circles and orders say
 pub record Orders : Type 0 where

@@ -26,10 +26,10 @@ use Rattle.hare_graph.proofs.Elements.{Contains-here}
 use Rattle.hare_whole.specs.Listing.{Listing, saids, IsDecl}
 use Rattle.hare_whole.specs.Parts.{known, known_by}
 use Rattle.hare_whole.specs.Judged.{AreTyped}
-use Rattle.hare_sole.proofs.Found.{known-found}
-use Rattle.hare_sole.proofs.PartLemmas.{Trees, Pair, SaySame, AgreeAmong}
-use Rattle.hare_sole.proofs.DeclLemmas.{AgreeOnParts, known-same, global-known-same, decl-same}
-use Rattle.hare_sole.proofs.SaidLemmas.{paths-there, held-there, numbers-there}
+use Rattle.hare_sole.proofs.OneProgram.Found.{known-found}
+use Rattle.hare_sole.proofs.OneTree.Parts.{Trees, Pair, SaySame, AgreeAmong}
+use Rattle.hare_sole.proofs.OneTree.Declarations.{AgreeOnParts, known-same, global-known-same, decl-same}
+use Rattle.hare_sole.proofs.OneProgram.Said.{paths-there, held-there, numbers-there}
 
 -- ---- orders
 
