@@ -1,10 +1,3 @@
-pub mod ListLemmas
-pub mod NodeLemmas
-pub mod CopyLemmas
-pub mod CountLemmas
-pub mod PartLemmas
-pub mod TypeLemmas
-pub mod KindLemmas
-pub mod BindingLemmas
-pub mod ParamLemmas
-pub mod FunctionLemmas
+pub mod OneByOne
+pub mod PutTogether
+pub mod FinishedTrees

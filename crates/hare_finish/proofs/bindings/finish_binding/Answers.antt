@@ -5,9 +5,9 @@ use Rattle.hare_types.proofs.LaterLemmas.{later_trans}
 use Rattle.hare_typed.specs.Typed.{TypedNode}
 use Rattle.hare_finish.specs.Finished.{IsFinished}
 use Rattle.hare_finish.specs.Made.{is_binding, IsVoid, IsBindingMade}
-use Rattle.hare_finish.proofs.ListLemmas.{ok-map}
-use Rattle.hare_finish.proofs.KindLemmas.{by-kind}
-use Rattle.hare_finish.proofs.BindingLemmas.{binding-finished}
+use Rattle.hare_finish.proofs.OneByOne.Lists.{ok-map}
+use Rattle.hare_finish.proofs.FinishedTrees.Kinds.{by-kind}
+use Rattle.hare_finish.proofs.FinishedTrees.Bindings.{binding-finished}
 use Rattle.hare_finish.proofs.bindings.finish_binding.Goals as goal
 
 pub returns-clause-ok : goal.returns-clause-ok

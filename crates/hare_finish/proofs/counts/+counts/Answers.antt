@@ -1,7 +1,7 @@
 use Rattle.std.proofs.Common.{◌<◌, arith}
 use Rattle.hare_typed.specs.Typed.{typed_nodes, size_of, sizes_of}
 use Rattle.hare_typed.proofs.KidLemmas.{kid_size}
-use Rattle.hare_finish.proofs.CountLemmas.{trees-next, trees-none}
+use Rattle.hare_finish.proofs.OneByOne.Counts.{trees-next, trees-none}
 use Rattle.hare_finish.proofs.counts.+counts.Goals as goal
 
 pub count_each-count_tree-requires : goal.count_each-count_tree-requires

@@ -6,9 +6,9 @@ use Rattle.hare_typed.specs.Typed.{TypedNode}
 use Rattle.hare_walk.proofs.Grows.{grown-trans}
 use Rattle.hare_finish.specs.Finished.{IsFinished}
 use Rattle.hare_finish.specs.Made.{IsTypeMade, IsFunctionMade}
-use Rattle.hare_finish.proofs.ListLemmas.{ok-map}
-use Rattle.hare_finish.proofs.TypeLemmas.{type-finished}
-use Rattle.hare_finish.proofs.FunctionLemmas.{function-finished}
+use Rattle.hare_finish.proofs.OneByOne.Lists.{ok-map}
+use Rattle.hare_finish.proofs.FinishedTrees.Types.{type-finished}
+use Rattle.hare_finish.proofs.FinishedTrees.Functions.{function-finished}
 use Rattle.hare_finish.proofs.finish.finish_declaration.Goals as goal
 
 pub returns-in-TypeDecl-clause-ok : goal.returns-in-TypeDecl-clause-ok

@@ -1,7 +1,7 @@
 use Rattle.std.proofs.Common.{◌≡◌, ◌-◌, length, suc, sym, ap, ◌∙◌, arith}
 use Rattle.hare_whole.specs.Declared.{unnumbered}
 use Rattle.hare_finish.specs.Made.{last_tree}
-use Rattle.hare_finish.proofs.ListLemmas.{last-there, ok-map}
+use Rattle.hare_finish.proofs.OneByOne.Lists.{last-there, ok-map}
 use Rattle.hare_finish.proofs.functions.last_type.Goals as goal
 
 pub returns : goal.returns

@@ -4,7 +4,7 @@ use Rattle.hare_typed.specs.Typed.{marked, typed_nodes}
 use Rattle.hare_modules.specs.Uses.{kids}
 use Rattle.hare_modules.proofs.Trees.{kids-seen}
 use Rattle.hare_finish.specs.Made.{void_mark, parts_as, params_as, ArePartsShaped}
-use Rattle.hare_finish.proofs.ListLemmas.{ok-map}
+use Rattle.hare_finish.proofs.OneByOne.Lists.{ok-map}
 use Rattle.hare_finish.proofs.params.finish_params.Goals as goal
 
 pub returns-clause-tree : goal.returns-clause-tree

@@ -4,8 +4,8 @@ use Rattle.hare_typed.specs.Numbers.{is_param}
 use Rattle.hare_typed.specs.Typed.{marked, typed_nodes}
 use Rattle.hare_whole.specs.Declared.{unnumbered}
 use Rattle.hare_finish.specs.Made.{void_mark, part_as}
-use Rattle.hare_finish.proofs.ListLemmas.{ok-map}
-use Rattle.hare_finish.proofs.ParamLemmas.{part-param}
+use Rattle.hare_finish.proofs.OneByOne.Lists.{ok-map}
+use Rattle.hare_finish.proofs.FinishedTrees.Parameters.{part-param}
 use Rattle.hare_finish.proofs.params.part.Goals as goal
 
 pub returns-clause-tree : goal.returns-clause-tree

@@ -1,8 +1,8 @@
 use Rattle.std.proofs.Common.{◌≡◌, ◌+◌, ◌<◌, length, ap, ◌∙◌, arith}
 use Rattle.hare_tree.specs.Node.{head}
 use Rattle.hare_finish.specs.Made.{taken_by, parts_as}
-use Rattle.hare_finish.proofs.ListLemmas.{within-there}
-use Rattle.hare_finish.proofs.ParamLemmas.{parts-next, shaped-next}
+use Rattle.hare_finish.proofs.OneByOne.Lists.{within-there}
+use Rattle.hare_finish.proofs.FinishedTrees.Parameters.{parts-next, shaped-next}
 use Rattle.hare_finish.proofs.params.parts.Goals as goal
 
 pub loop-i-preserved : goal.loop-i-preserved

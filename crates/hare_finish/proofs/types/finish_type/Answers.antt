@@ -4,8 +4,8 @@ use Rattle.hare_typed.specs.Order.{tree_from_front}
 use Rattle.hare_typed.specs.Typed.{marked, typed_nodes}
 use Rattle.hare_whole.specs.Declared.{unnumbered}
 use Rattle.hare_finish.specs.Made.{void_mark, IsTypeMade}
-use Rattle.hare_finish.proofs.NodeLemmas.{declaration-made}
-use Rattle.hare_finish.proofs.ListLemmas.{first-there, ok-map}
+use Rattle.hare_finish.proofs.PutTogether.PlainNodes.{declaration-made}
+use Rattle.hare_finish.proofs.OneByOne.Lists.{first-there, ok-map}
 use Rattle.hare_finish.proofs.types.finish_type.Goals as goal
 
 pub returns : goal.returns

@@ -1,7 +1,7 @@
 use Rattle.std.proofs.Common.{◌<◌, ◌∙◌, arith}
 use Rattle.hare_typed.specs.Typed.{typed_nodes, size_of, sizes_of}
 use Rattle.hare_typed.proofs.KidLemmas.{kid_size}
-use Rattle.hare_finish.proofs.CopyLemmas.{marked-map_unnumbered, map_unnumbered-push}
+use Rattle.hare_finish.proofs.PutTogether.Copies.{marked-map_unnumbered, map_unnumbered-push}
 use Rattle.hare_finish.proofs.unnumbered.+unnumbered.Goals as goal
 
 pub copy_unnumbered-returns : goal.copy_unnumbered-returns

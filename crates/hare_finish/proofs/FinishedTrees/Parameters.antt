@@ -17,10 +17,10 @@ use Rattle.hare_whole.specs.Parts.{written_id, type_of_param}
 use Rattle.hare_whole.specs.Declared.{unnumbered, plain_mark, AreWellParams}
 use Rattle.hare_whole.specs.Turns.{IsTyped, AreTyped}
 use Rattle.hare_finish.specs.Made.{void_mark, plain_as, IsLeaf, IsPartShaped, ArePartsShaped, taken_by, part_as, parts_as}
-use Rattle.hare_finish.proofs.NodeLemmas.{void_plain, plain_as-IsPlain, erase-plain_as, one-kid}
-use Rattle.hare_finish.proofs.CopyLemmas.{erase-unnumbered, written_id-unnumbered}
-use Rattle.hare_finish.proofs.ListLemmas.{drop-next, drop-more, first-there}
-use Rattle.hare_finish.proofs.PartLemmas.{unnumbered-well}
+use Rattle.hare_finish.proofs.PutTogether.PlainNodes.{void_plain, plain_as-IsPlain, erase-plain_as, one-kid}
+use Rattle.hare_finish.proofs.PutTogether.Copies.{erase-unnumbered, written_id-unnumbered}
+use Rattle.hare_finish.proofs.OneByOne.Lists.{drop-next, drop-more, first-there}
+use Rattle.hare_finish.proofs.PutTogether.WrittenTypes.{unnumbered-well}
 
 -- ---- parts
 

@@ -24,11 +24,11 @@ use Rattle.hare_whole.specs.Declared.{unnumbered, plain_mark, over_body, before_
 use Rattle.hare_whole.specs.Turns.{AreTyped, IsTyped, known_by_types}
 use Rattle.hare_finish.specs.Finished.{IsBodyBy, IsFinished, said_by_value}
 use Rattle.hare_finish.specs.Made.{void_mark, plain_as, parts_as, params_as, last_tree, IsVoid, IsDeclaration, IsFunctionMade}
-use Rattle.hare_finish.proofs.ListLemmas.{but_last-append, last-append, map-map}
-use Rattle.hare_finish.proofs.NodeLemmas.{void_plain, plain_as-IsPlain, erase-plain_as, five-kids, branch-kids}
-use Rattle.hare_finish.proofs.CopyLemmas.{erase-unnumbered, written_id-unnumbered}
-use Rattle.hare_finish.proofs.PartLemmas.{IsSplit, typed-split, unnumbered-well}
-use Rattle.hare_finish.proofs.ParamLemmas.{types_in, ArePartsWell, parts-well}
+use Rattle.hare_finish.proofs.OneByOne.Lists.{but_last-append, last-append, map-map}
+use Rattle.hare_finish.proofs.PutTogether.PlainNodes.{void_plain, plain_as-IsPlain, erase-plain_as, five-kids, branch-kids}
+use Rattle.hare_finish.proofs.PutTogether.Copies.{erase-unnumbered, written_id-unnumbered}
+use Rattle.hare_finish.proofs.PutTogether.WrittenTypes.{IsSplit, typed-split, unnumbered-well}
+use Rattle.hare_finish.proofs.FinishedTrees.Parameters.{types_in, ArePartsWell, parts-well}
 
 -- the tree of all parameters, of these parts
 abbrev params_of : (void : ℕ) → Node → List TypedNode → TypedNode

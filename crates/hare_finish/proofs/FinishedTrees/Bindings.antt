@@ -27,10 +27,10 @@ use Rattle.hare_whole.specs.Turns.{IsTyped, AreTyped, hint_by, plain_of, type_or
 use Rattle.hare_finish.specs.Finished.{IsValued, IsFinished, IsFinishedIn, said_by_parts}
 use Rattle.hare_finish.specs.Made.{void_mark, plain_as, type_as, IsVoid, IsLeaf, IsLeafOrWritten, IsDeclaration}
 use Rattle.hare_finish.specs.Made.{IsDeclaredCoercion, IsBindingMade}
-use Rattle.hare_finish.proofs.NodeLemmas.{void_plain, plain_as-plain_of, plain_as-IsPlain, erase-plain_as, four-kids}
-use Rattle.hare_finish.proofs.CopyLemmas.{erase-unnumbered, own_type-unnumbered}
-use Rattle.hare_finish.proofs.PartLemmas.{one-typed, none-typed, unnumbered-well}
-use Rattle.hare_finish.proofs.KindLemmas.{types_of, IsBindingKind}
+use Rattle.hare_finish.proofs.PutTogether.PlainNodes.{void_plain, plain_as-plain_of, plain_as-IsPlain, erase-plain_as, four-kids}
+use Rattle.hare_finish.proofs.PutTogether.Copies.{erase-unnumbered, own_type-unnumbered}
+use Rattle.hare_finish.proofs.PutTogether.WrittenTypes.{one-typed, none-typed, unnumbered-well}
+use Rattle.hare_finish.proofs.FinishedTrees.Kinds.{types_of, IsBindingKind}
 
 -- ---- the written type, and the value
 

@@ -20,9 +20,9 @@ use Rattle.hare_whole.specs.Declared.{unnumbered, IsWellTypeDecl, IsWellBy}
 use Rattle.hare_whole.specs.Turns.{AreTyped, IsTyped, known_by_types}
 use Rattle.hare_finish.specs.Finished.{IsFinished, said_by_value, said_by_parts}
 use Rattle.hare_finish.specs.Made.{plain_as, IsVoid, IsDeclaration, IsTypeMade}
-use Rattle.hare_finish.proofs.NodeLemmas.{void_plain, plain_as-IsPlain, erase-plain_as, three-kids}
-use Rattle.hare_finish.proofs.CopyLemmas.{erase-unnumbered}
-use Rattle.hare_finish.proofs.PartLemmas.{one-typed, unnumbered-well}
+use Rattle.hare_finish.proofs.PutTogether.PlainNodes.{void_plain, plain_as-IsPlain, erase-plain_as, three-kids}
+use Rattle.hare_finish.proofs.PutTogether.Copies.{erase-unnumbered}
+use Rattle.hare_finish.proofs.PutTogether.WrittenTypes.{one-typed, unnumbered-well}
 
 -- of a type declaration the type is written
 pub type-typed : (w : Setting) (n : ℕ) (t : Node) (ts : List TypedNode) → (head t).kind ≡ ki.TypeDecl →

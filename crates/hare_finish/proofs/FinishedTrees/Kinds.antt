@@ -24,7 +24,7 @@ use Rattle.hare_whole.specs.Parts.{declared_id, id_or_zero, written_id, known_as
 use Rattle.hare_whole.specs.Declared.{unnumbered, own_context, IsWellBinding, IsWellBy}
 use Rattle.hare_whole.specs.Turns.{known_by_types, known_by_value, is_def}
 use Rattle.hare_finish.specs.Made.{is_binding}
-use Rattle.hare_finish.proofs.CopyLemmas.{own_type-unnumbered}
+use Rattle.hare_finish.proofs.PutTogether.Copies.{own_type-unnumbered}
 
 -- ---- rows
 

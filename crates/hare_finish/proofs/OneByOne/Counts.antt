@@ -5,7 +5,7 @@ use Rattle.std.proofs.lemmas.List.{drop_all}
 use Rattle.hare_typed.specs.Typed.{TypedNode, typed_nodes}
 use Rattle.hare_typed.specs.Erased.{erase, erase_each}
 use Rattle.hare_rules.specs.Above.{trees_in, trees_in_each}
-use Rattle.hare_finish.proofs.ListLemmas.{drop-next}
+use Rattle.hare_finish.proofs.OneByOne.Lists.{drop-next}
 
 pub trees-next : (ts : List TypedNode) (i : ℕ) (t : TypedNode) → slice_get ts i ≡ Some t →
     trees_in_each (erase_each (typed_nodes (drop i ts))) ≡ trees_in (erase t) + trees_in_each (erase_each (typed_nodes (drop (i + 1) ts)))
