@@ -1,10 +1,3 @@
-mod ListLemmas
-pub mod StoreLemmas
-mod JudgedLemmas
-mod KnownLemmas
-mod SlotLemmas
-mod StandingLemmas
-mod TypesLemmas
-mod ValueLemmas
-mod DoneLemmas
-mod EndLemmas
+mod JudgedByStage
+pub mod WhileStoresGrow
+mod OneMore

@@ -22,7 +22,7 @@ use Rattle.hare_walk.specs.Grown.{IsGrown}
 use Rattle.hare_steps.specs.Plans.{StopsAtCircle}
 use Rattle.hare_declarations.specs.declared.parts.Judged.{Judged}
 use Rattle.hare_declarations.specs.Judged.{IsJudgedAs}
-use Rattle.hare_declarations.proofs.StoreLemmas.{grown-to}
+use Rattle.hare_declarations.proofs.WhileStoresGrow.Stores.{grown-to}
 use Rattle.hare_joined.specs.Joined.{AreFinished, FinishedAreTyped}
 use Rattle.hare_unit.specs.Programs.{listing_of, OverEnds, AreJudged, IsFaultBehindNames, IsPhaseStop}
 use Rattle.hare_unit.proofs.StoreLemmas.{final-grown}

@@ -8,7 +8,7 @@ use Rattle.hare_whole.specs.Listing.{Listing}
 use Rattle.hare_whole.specs.Judged.{IsFinal}
 use Rattle.hare_turns.specs.Stages.{IsEnd}
 use Rattle.hare_turns.specs.Laws.{IsGrownTo}
-use Rattle.hare_declarations.proofs.StoreLemmas.{declared-later, nomem-later}
+use Rattle.hare_declarations.proofs.WhileStoresGrow.Stores.{declared-later, nomem-later}
 
 -- a store with which it may end is one that comes behind it
 pub end-here : (p : Listing) (s : Store) → IsStore s → IsFinal p s → IsEnd p s s

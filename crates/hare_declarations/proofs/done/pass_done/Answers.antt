@@ -8,9 +8,9 @@ use Rattle.hare_steps.specs.Plans.{listing, step_of}
 use Rattle.hare_waits.specs.declared.waiting.Late.{Late}
 use Rattle.hare_declarations.specs.declared.state.State.{State}
 use Rattle.hare_declarations.specs.Standing.{IsStanding, steps_before}
-use Rattle.hare_declarations.proofs.ListLemmas.{map-take-next}
-use Rattle.hare_declarations.proofs.StoreLemmas.{defines-also}
-use Rattle.hare_declarations.proofs.DoneLemmas.{DefinesType, WaitsNow, is-type, no-type, other-goes, type-stays, type-goes, type-stop}
+use Rattle.hare_declarations.proofs.JudgedByStage.Lists.{map-take-next}
+use Rattle.hare_declarations.proofs.WhileStoresGrow.Stores.{defines-also}
+use Rattle.hare_declarations.proofs.OneMore.Done.{DefinesType, WaitsNow, is-type, no-type, other-goes, type-stays, type-goes, type-stop}
 use Rattle.hare_declarations.proofs.done.pass_done.Goals as goal
 
 pub returns-then-not-is_type-clause-ok : goal.returns-then-not-is_type-clause-ok

@@ -4,8 +4,8 @@ use Rattle.hare_walk.proofs.Steps.{err_same}
 use Rattle.hare_steps.specs.Plans.{listing}
 use Rattle.hare_turns.specs.Ends.{IsDeclarationStop}
 use Rattle.hare_declarations.specs.Standing.{IsPlanned, IsStanding, steps_before}
-use Rattle.hare_declarations.proofs.EndLemmas.{places-count, begins, ends}
-use Rattle.hare_declarations.proofs.StandingLemmas.{stays-trans}
+use Rattle.hare_declarations.proofs.OneMore.Ends.{places-count, begins, ends}
+use Rattle.hare_declarations.proofs.WhileStoresGrow.Stands.{stays-trans}
 use Rattle.hare_declarations.proofs.judge.judge_declarations.Goals as goal
 
 pub loop-place-init : goal.loop-place-init

@@ -8,11 +8,11 @@ use Rattle.hare_steps.specs.Plans.{listing, step_of}
 use Rattle.hare_turns.specs.Ends.{IsDeclarationStop}
 use Rattle.hare_declarations.specs.declared.state.State.{State}
 use Rattle.hare_declarations.specs.Standing.{IsStanding, steps_before}
-use Rattle.hare_declarations.proofs.ListLemmas.{map-take-next}
-use Rattle.hare_declarations.proofs.StoreLemmas.{grown-to}
-use Rattle.hare_declarations.proofs.JudgedLemmas.{stand-later, fit-later, types-later}
-use Rattle.hare_declarations.proofs.StandingLemmas.{standing-walked, stays-walked}
-use Rattle.hare_declarations.proofs.TypesLemmas.{JudgesTypes, types-go, types-stop}
+use Rattle.hare_declarations.proofs.JudgedByStage.Lists.{map-take-next}
+use Rattle.hare_declarations.proofs.WhileStoresGrow.Stores.{grown-to}
+use Rattle.hare_declarations.proofs.WhileStoresGrow.Judged.{stand-later, fit-later, types-later}
+use Rattle.hare_declarations.proofs.WhileStoresGrow.Stands.{standing-walked, stays-walked}
+use Rattle.hare_declarations.proofs.OneMore.Types.{JudgesTypes, types-go, types-stop}
 use Rattle.hare_declarations.proofs.types.pass_types.Goals as goal
 
 pub returns-in_err-types-clause-err : goal.returns-in_err-types-clause-err

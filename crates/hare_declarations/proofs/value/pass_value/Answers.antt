@@ -9,12 +9,12 @@ use Rattle.hare_turns.specs.Ends.{IsDeclarationStop}
 use Rattle.hare_declarations.specs.declared.parts.Parts.{Parts}
 use Rattle.hare_declarations.specs.declared.state.State.{State}
 use Rattle.hare_declarations.specs.Standing.{IsStanding, steps_before}
-use Rattle.hare_declarations.proofs.ListLemmas.{map-take-next, slice_set-set}
-use Rattle.hare_declarations.proofs.StoreLemmas.{grown-to}
-use Rattle.hare_declarations.proofs.JudgedLemmas.{value-later}
-use Rattle.hare_declarations.proofs.KnownLemmas.{taken-later}
-use Rattle.hare_declarations.proofs.StandingLemmas.{standing-walked, stays-walked}
-use Rattle.hare_declarations.proofs.ValueLemmas.{JudgesValue, types-erase, value-goes, value-stop}
+use Rattle.hare_declarations.proofs.JudgedByStage.Lists.{map-take-next, slice_set-set}
+use Rattle.hare_declarations.proofs.WhileStoresGrow.Stores.{grown-to}
+use Rattle.hare_declarations.proofs.WhileStoresGrow.Judged.{value-later}
+use Rattle.hare_declarations.proofs.WhileStoresGrow.Ready.{taken-later}
+use Rattle.hare_declarations.proofs.WhileStoresGrow.Stands.{standing-walked, stays-walked}
+use Rattle.hare_declarations.proofs.OneMore.Values.{JudgesValue, types-erase, value-goes, value-stop}
 use Rattle.hare_declarations.proofs.value.pass_value.Goals as goal
 
 pub judge_value-requires-clause-types : goal.judge_value-requires-clause-types

@@ -26,9 +26,9 @@ use Rattle.hare_written.proofs.KnownLemmas.{defs-stay}
 use Rattle.hare_declarations.specs.declared.state.State.{State}
 use Rattle.hare_declarations.specs.Laws.{AreLaws}
 use Rattle.hare_declarations.specs.Standing.{IsStanding, IsPlanned, StaysDeclared, steps_before}
-use Rattle.hare_declarations.proofs.ListLemmas.{map-split}
-use Rattle.hare_declarations.proofs.StoreLemmas.{grown-to}
-use Rattle.hare_declarations.proofs.KnownLemmas.{taken-later}
+use Rattle.hare_declarations.proofs.JudgedByStage.Lists.{map-split}
+use Rattle.hare_declarations.proofs.WhileStoresGrow.Stores.{grown-to}
+use Rattle.hare_declarations.proofs.WhileStoresGrow.Ready.{taken-later}
 
 -- ---- in later stores
 

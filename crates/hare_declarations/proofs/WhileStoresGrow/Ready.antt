@@ -13,7 +13,7 @@ use Rattle.rule_judge.proofs.DefinedLemmas.{defined_stays}
 use Rattle.hare_ready.specs.Ready.{AreReady}
 use Rattle.hare_turns.specs.Stages.{known_of}
 use Rattle.hare_readable.specs.Taken.{AreTaken}
-use Rattle.hare_declarations.proofs.ListLemmas.{Contains-nil}
+use Rattle.hare_declarations.proofs.JudgedByStage.Lists.{Contains-nil}
 
 -- ---- in later stores
 

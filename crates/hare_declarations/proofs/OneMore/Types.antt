@@ -31,9 +31,9 @@ use Rattle.hare_waits.specs.Waits.{AreAwaited}
 use Rattle.hare_declarations.specs.declared.state.State.{State}
 use Rattle.hare_declarations.specs.Laws.{AreLaws}
 use Rattle.hare_declarations.specs.Standing.{IsStanding, IsPlanned, IsNew, steps_before}
-use Rattle.hare_declarations.proofs.KnownLemmas.{taken-more}
-use Rattle.hare_declarations.proofs.SlotLemmas.{same-types, slot-types, slots-write}
-use Rattle.hare_declarations.proofs.StandingLemmas.{valued-types, step-stops}
+use Rattle.hare_declarations.proofs.WhileStoresGrow.Ready.{taken-more}
+use Rattle.hare_declarations.proofs.JudgedByStage.Slots.{same-types, slot-types, slots-write}
+use Rattle.hare_declarations.proofs.WhileStoresGrow.Stands.{valued-types, step-stops}
 
 -- from what stood before to what stands then, the types of the declaration have been judged
 pub record JudgesTypes (p : Listing) (r : Store) (a b : State) (n : ℕ) (t : Node) (ts : List TypedNode) : Type 0 where

@@ -11,7 +11,7 @@ use Rattle.hare_whole.specs.Listing.{Listing}
 use Rattle.hare_whole.specs.Turns.{Stage, start, typed_at, with_done}
 use Rattle.hare_declarations.specs.declared.parts.Parts.{Parts}
 use Rattle.hare_declarations.specs.Standing.{IsSlot, AreSlots}
-use Rattle.hare_declarations.proofs.ListLemmas.{Contains-nil, length-set, slice_get-set_same, slice_get-set_other, length-replicate, slice_get-replicate}
+use Rattle.hare_declarations.proofs.JudgedByStage.Lists.{Contains-nil, length-set, slice_get-set_same, slice_get-set_other, length-replicate, slice_get-replicate}
 
 -- ---- lists of what has been judged
 

@@ -26,9 +26,9 @@ use Rattle.hare_declarations.specs.declared.state.State.{State}
 use Rattle.hare_declarations.specs.Judged.{AreParts, IsJudgedAs}
 use Rattle.hare_declarations.specs.Laws.{AreLaws}
 use Rattle.hare_declarations.specs.Standing.{HasParts, AreSlots, IsStanding, IsBeginning, IsTaken, IsPlanned, steps_before}
-use Rattle.hare_declarations.proofs.ListLemmas.{Contains-nil}
-use Rattle.hare_declarations.proofs.KnownLemmas.{taken-none}
-use Rattle.hare_declarations.proofs.SlotLemmas.{slots-empty}
+use Rattle.hare_declarations.proofs.JudgedByStage.Lists.{Contains-nil}
+use Rattle.hare_declarations.proofs.WhileStoresGrow.Ready.{taken-none}
+use Rattle.hare_declarations.proofs.JudgedByStage.Slots.{slots-empty}
 
 -- ---- before the first step
 

@@ -38,11 +38,11 @@ use Rattle.hare_declarations.specs.declared.parts.Parts.{Parts}
 use Rattle.hare_declarations.specs.declared.state.State.{State}
 use Rattle.hare_declarations.specs.Laws.{AreLaws}
 use Rattle.hare_declarations.specs.Standing.{AreSlots, IsStanding, IsPlanned, StaysDeclared, steps_before}
-use Rattle.hare_declarations.proofs.ListLemmas.{map-split}
-use Rattle.hare_declarations.proofs.KnownLemmas.{taken-later}
-use Rattle.hare_declarations.proofs.SlotLemmas.{slots-done}
-use Rattle.hare_declarations.proofs.StandingLemmas.{valued-done}
-use Rattle.hare_declarations.proofs.StoreLemmas.{grown_to-refl, declared-later, nomem-later}
+use Rattle.hare_declarations.proofs.JudgedByStage.Lists.{map-split}
+use Rattle.hare_declarations.proofs.WhileStoresGrow.Ready.{taken-later}
+use Rattle.hare_declarations.proofs.JudgedByStage.Slots.{slots-done}
+use Rattle.hare_declarations.proofs.WhileStoresGrow.Stands.{valued-done}
+use Rattle.hare_declarations.proofs.WhileStoresGrow.Stores.{grown_to-refl, declared-later, nomem-later}
 
 -- ---- by kinds
 

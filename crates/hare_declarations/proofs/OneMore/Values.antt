@@ -39,9 +39,9 @@ use Rattle.hare_declarations.specs.declared.parts.Parts.{Parts}
 use Rattle.hare_declarations.specs.declared.state.State.{State}
 use Rattle.hare_declarations.specs.Laws.{AreLaws}
 use Rattle.hare_declarations.specs.Standing.{IsStanding, IsPlanned, IsUnknown, CanValue, steps_before}
-use Rattle.hare_declarations.proofs.KnownLemmas.{taken-more}
-use Rattle.hare_declarations.proofs.SlotLemmas.{Contains-head, behind-first, same-value, slot-value, slots-write}
-use Rattle.hare_declarations.proofs.StandingLemmas.{step-stops}
+use Rattle.hare_declarations.proofs.WhileStoresGrow.Ready.{taken-more}
+use Rattle.hare_declarations.proofs.JudgedByStage.Slots.{Contains-head, behind-first, same-value, slot-value, slots-write}
+use Rattle.hare_declarations.proofs.WhileStoresGrow.Stands.{step-stops}
 
 -- ---- written types
 
