@@ -24,7 +24,7 @@ use Rattle.hare_whole.specs.Parts.{id_or_zero, written_id, declared_id, global_k
 use Rattle.hare_whole.specs.Turns.{known_by_types}
 use Rattle.hare_defined.specs.Known.{AreDefined, DefinedTypesStay}
 use Rattle.hare_written.specs.Program.{AreDefsDefined}
-use Rattle.hare_written.proofs.KnownLemmas.{defs-stay}
+use Rattle.hare_written.proofs.PartOfType.Known.{defs-stay}
 use Rattle.rule_judge.specs.Defined.{IsDefined}
 
 -- ---- the types of defs

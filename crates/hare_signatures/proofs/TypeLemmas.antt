@@ -26,7 +26,7 @@ use Rattle.hare_turns.specs.Types.{IsTypeOf, AreTypesSoFar, TypesAreJudged}
 use Rattle.hare_walk.specs.Grown.{IsGrown}
 use Rattle.hare_written.specs.Program.{program_over}
 use Rattle.hare_written.specs.Trees.{IsWrittenTree}
-use Rattle.hare_written.proofs.FitLemmas.{grown-later}
+use Rattle.hare_written.proofs.Fitting.Fits.{grown-later}
 use Rattle.hare_signatures.specs.Listed.{IsTypeStop}
 use Rattle.hare_signatures.specs.Signatures.{IsSignatureStop}
 

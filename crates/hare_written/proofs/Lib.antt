@@ -1,9 +1,3 @@
-pub mod NodeLemmas
-pub mod FitLemmas
-pub mod KindLemmas
-pub mod TurnLemmas
-pub mod KidLemmas
-pub mod TreeLemmas
-pub mod FoundLemmas
-pub mod KnownLemmas
-pub mod AnswerLemmas
+pub mod Fitting
+pub mod PartOfType
+pub mod JudgedWhole

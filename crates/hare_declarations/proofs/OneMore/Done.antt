@@ -31,7 +31,7 @@ use Rattle.hare_turns.specs.Ends.{IsDeclarationStop}
 use Rattle.hare_defined.specs.Known.{AreDefined}
 use Rattle.hare_defined.proofs.StayLemmas.{defined_types_stay}
 use Rattle.hare_written.specs.Program.{AreDefsDefined}
-use Rattle.hare_written.proofs.KnownLemmas.{defs-stay}
+use Rattle.hare_written.proofs.PartOfType.Known.{defs-stay}
 use Rattle.hare_readable.specs.Taken.{AreTaken}
 use Rattle.hare_waits.specs.Waits.{AreAwaited, IsLate}
 use Rattle.hare_declarations.specs.declared.parts.Parts.{Parts}

@@ -22,7 +22,7 @@ use Rattle.hare_turns.specs.Course.{AreValued}
 use Rattle.hare_turns.specs.Ends.{IsDeclarationStop}
 use Rattle.hare_defined.proofs.StayLemmas.{defined_types_stay}
 use Rattle.hare_walk.specs.Grown.{IsGrown}
-use Rattle.hare_written.proofs.KnownLemmas.{defs-stay}
+use Rattle.hare_written.proofs.PartOfType.Known.{defs-stay}
 use Rattle.hare_declarations.specs.declared.state.State.{State}
 use Rattle.hare_declarations.specs.Laws.{AreLaws}
 use Rattle.hare_declarations.specs.Standing.{IsStanding, IsPlanned, StaysDeclared, steps_before}

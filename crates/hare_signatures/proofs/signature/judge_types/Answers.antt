@@ -4,8 +4,8 @@ use Rattle.hare_steps.specs.Plans.{listing}
 use Rattle.hare_turns.specs.Types.{AreTypesSoFar}
 use Rattle.hare_walk.proofs.Grows.{grown-trans}
 use Rattle.hare_walk.proofs.Steps.{err_same}
-use Rattle.hare_written.proofs.FitLemmas.{grown-later}
-use Rattle.hare_written.proofs.KnownLemmas.{defs-stay}
+use Rattle.hare_written.proofs.Fitting.Fits.{grown-later}
+use Rattle.hare_written.proofs.PartOfType.Known.{defs-stay}
 use Rattle.hare_signatures.specs.Listed.{written_of}
 use Rattle.hare_signatures.specs.Signatures.{IsSignatureStop}
 use Rattle.hare_signatures.proofs.ListLemmas.{written-there}

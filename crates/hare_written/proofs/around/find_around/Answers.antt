@@ -1,7 +1,7 @@
 use Rattle.hare_tree.specs.Node.{head}
 use Rattle.hare_typed.specs.Typed.{marked, typed_nodes}
-use Rattle.hare_written.proofs.FoundLemmas.{around-found}
-use Rattle.hare_written.proofs.KnownLemmas.{part-stays}
+use Rattle.hare_written.proofs.PartOfType.Found.{around-found}
+use Rattle.hare_written.proofs.PartOfType.Known.{part-stays}
 use Rattle.hare_written.proofs.around.find_around.Goals as goal
 
 pub returns-clause-ok : goal.returns-clause-ok

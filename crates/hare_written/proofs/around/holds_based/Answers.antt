@@ -2,7 +2,7 @@ use Rattle.std.proofs.Common.{ap, sym, ◌∙◌, subst, IsSome}
 use Rattle.hare_rules.specs.Context.{own_type}
 use Rattle.rule_judge.proofs.KidLemmas.{front_found}
 use Rattle.rule_types.specs.Known.{IsBasedTy}
-use Rattle.hare_written.proofs.KnownLemmas.{first-stands}
+use Rattle.hare_written.proofs.PartOfType.Known.{first-stands}
 use Rattle.hare_written.proofs.around.holds_based.Goals as goal
 
 pub returns-in-Of : goal.returns-in-Of

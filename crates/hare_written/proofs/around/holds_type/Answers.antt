@@ -2,7 +2,7 @@ use Rattle.std.proofs.Common.{ap, sym, ◌∙◌}
 use Rattle.hare_tree.specs.Levels.{is_type}
 use Rattle.hare_typed.specs.Numbers.{kind_of}
 use Rattle.rule_judge.proofs.KidLemmas.{front_found}
-use Rattle.hare_written.proofs.KnownLemmas.{first-known}
+use Rattle.hare_written.proofs.PartOfType.Known.{first-known}
 use Rattle.hare_written.proofs.around.holds_type.Goals as goal
 
 pub returns-in-Some : goal.returns-in-Some

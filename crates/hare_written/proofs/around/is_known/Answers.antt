@@ -1,6 +1,6 @@
 use Rattle.std.proofs.Common.{ap, sym, ◌∙◌}
 use Rattle.hare_tree.specs.Node.{head}
-use Rattle.hare_written.proofs.KnownLemmas.{field-known, spread-known}
+use Rattle.hare_written.proofs.PartOfType.Known.{field-known, spread-known}
 use Rattle.hare_written.proofs.around.is_known.Goals as goal
 
 pub returns-in-StructField : goal.returns-in-StructField

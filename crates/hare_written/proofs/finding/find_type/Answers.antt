@@ -5,9 +5,9 @@ use Rattle.rule_types.specs.declared.written.Written.{Written}
 use Rattle.rule_types.specs.Contexts.{role_of}
 use Rattle.hare_written.specs.Program.{program_of, program_over}
 use Rattle.hare_written.specs.Turns.{IsTurnedBack}
-use Rattle.hare_written.proofs.FoundLemmas.{type-found, type-back}
-use Rattle.hare_written.proofs.KnownLemmas.{type-shaped}
-use Rattle.hare_written.proofs.TreeLemmas.{all-erased}
+use Rattle.hare_written.proofs.PartOfType.Found.{type-found, type-back}
+use Rattle.hare_written.proofs.PartOfType.Known.{type-shaped}
+use Rattle.hare_written.proofs.JudgedWhole.Parts.{all-erased}
 use Rattle.hare_written.proofs.finding.find_type.Goals as goal
 
 pub judge-requires-clause-told : goal.judge-requires-clause-told

@@ -1,9 +1,9 @@
 use Rattle.std.proofs.Common.{refl, sym, ◌∙◌}
 use Rattle.hare_tree.specs.Node.{head}
 use Rattle.hare_written.specs.Program.{program_of}
-use Rattle.hare_written.proofs.FoundLemmas.{other-found, length-found}
-use Rattle.hare_written.proofs.KindLemmas.{counted-path}
-use Rattle.hare_written.proofs.KnownLemmas.{length-shaped}
+use Rattle.hare_written.proofs.PartOfType.Found.{other-found, length-found}
+use Rattle.hare_written.proofs.PartOfType.Kinds.{counted-path}
+use Rattle.hare_written.proofs.PartOfType.Known.{length-shaped}
 use Rattle.hare_written.proofs.lengths.find_counted.Goals as goal
 
 pub returns-then-means_other-clause-ok : goal.returns-then-means_other-clause-ok

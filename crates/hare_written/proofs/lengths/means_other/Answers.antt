@@ -1,7 +1,7 @@
 use Rattle.std.proofs.Common.{ℕ, not, Some, None, ap, sym, ◌∙◌}
 use Rattle.std.specs.Prelude.{nat_eq, find, option_copied}
 use Rattle.hare_rules.specs.declared.declared.DeclType.{DeclType}
-use Rattle.hare_written.proofs.KindLemmas.{meant-def, not-def}
+use Rattle.hare_written.proofs.PartOfType.Kinds.{meant-def, not-def}
 use Rattle.hare_written.proofs.lengths.means_other.Goals as goal
 use Rattle.hare_written.proofs.lengths.means_other.Goals.{in-Def, in_default}
 

@@ -5,8 +5,8 @@ use Rattle.hare_rules.specs.Flow.{context}
 use Rattle.hare_rules.specs.Settles.{same}
 use Rattle.hare_written.specs.Nodes.{seen_of}
 use Rattle.hare_written.specs.Program.{program_of}
-use Rattle.hare_written.proofs.KindLemmas.{written-meaning, role-length}
-use Rattle.hare_written.proofs.TurnLemmas.{turned}
+use Rattle.hare_written.proofs.PartOfType.Kinds.{written-meaning, role-length}
+use Rattle.hare_written.proofs.PartOfType.Turn.{turned}
 use Rattle.hare_written.proofs.turn.turn.Goals as goal
 
 pub returns-clause-ok : goal.returns-clause-ok

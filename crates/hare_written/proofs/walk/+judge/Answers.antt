@@ -12,11 +12,11 @@ use Rattle.hare_written.specs.Nodes.{is_written, nodes_in, seen_of}
 use Rattle.hare_written.specs.Program.{program_of}
 use Rattle.hare_written.specs.Roles.{role_in}
 use Rattle.hare_written.specs.Turns.{IsTurn}
-use Rattle.hare_written.proofs.FitLemmas.{grown-later}
-use Rattle.hare_written.proofs.KidLemmas.{kid-stopped, judged-more}
-use Rattle.hare_written.proofs.KnownLemmas.{defs-stay}
-use Rattle.hare_written.proofs.NodeLemmas.{nodes-more}
-use Rattle.hare_written.proofs.TreeLemmas.{kids-stopped, turn-stopped, judged, judged-count}
+use Rattle.hare_written.proofs.Fitting.Fits.{grown-later}
+use Rattle.hare_written.proofs.JudgedWhole.Kids.{kid-stopped, judged-more}
+use Rattle.hare_written.proofs.PartOfType.Known.{defs-stay}
+use Rattle.hare_written.proofs.Fitting.NodeLists.{nodes-more}
+use Rattle.hare_written.proofs.JudgedWhole.Parts.{kids-stopped, turn-stopped, judged, judged-count}
 use Rattle.hare_written.proofs.walk.+judge.Goals as goal
 
 pub judge_kids-judge_tree-judged-requires : goal.judge_kids-judge_tree-judged-requires

@@ -5,7 +5,7 @@ use Rattle.rule_types.specs.Contexts.{role_of}
 use Rattle.hare_written.specs.Judged.{IsJudged, IsStopped}
 use Rattle.hare_written.specs.Program.{program_over}
 use Rattle.hare_written.specs.Trees.{IsWrittenStop}
-use Rattle.hare_written.proofs.AnswerLemmas.{written-tree, written-stop}
+use Rattle.hare_written.proofs.JudgedWhole.Answers.{written-tree, written-stop}
 use Rattle.hare_written.proofs.written.judge_written.Goals as goal
 
 pub returns-clause-ok : goal.returns-clause-ok

@@ -32,10 +32,10 @@ use Rattle.rule_judge.proofs.DefinedLemmas.{ty_stays}
 use Rattle.rule_types.specs.Known.{AreKnownParts}
 use Rattle.hare_written.specs.Nodes.{is_written, nodes_in, StandsIn, IsFirst, coercions_of, seen_of, HasOwn, HaveOwn}
 use Rattle.hare_written.specs.Judged.{large_stop, IsJudged, IsStopped, AreJudged, AreStopped}
-use Rattle.hare_written.proofs.FitLemmas.{grown-later, grown-measures, measures-trans, stands-stay, fits-stay}
-use Rattle.hare_written.proofs.KindLemmas.{written-operand}
-use Rattle.hare_written.proofs.KnownLemmas.{parts-stay, parts-more}
-use Rattle.hare_written.proofs.NodeLemmas.{coerced, each-join, each-left, each-right, nodes-more, first-split, coercions-join, owns-front, owns-more}
+use Rattle.hare_written.proofs.Fitting.Fits.{grown-later, grown-measures, measures-trans, stands-stay, fits-stay}
+use Rattle.hare_written.proofs.PartOfType.Kinds.{written-operand}
+use Rattle.hare_written.proofs.PartOfType.Known.{parts-stay, parts-more}
+use Rattle.hare_written.proofs.Fitting.NodeLists.{coerced, each-join, each-left, each-right, nodes-more, first-split, coercions-join, owns-front, owns-more}
 
 -- none is
 pub judged-none : (w : Store → Setting) (s : Store) (h : Head) (ts : List Node) (n : ℕ) → AreJudged w s h ts n []

@@ -26,7 +26,7 @@ use Rattle.rule_types.specs.Known.{IsKnownTy, IsBased, IsBasedTy, IsKnownBy, IsK
 use Rattle.rule_types.proofs.KnownLemmas.{known_ty_stays}
 use Rattle.hare_written.specs.Nodes.{nodes_in, StandsIn}
 use Rattle.hare_written.specs.Program.{AreDefsDefined}
-use Rattle.hare_written.proofs.NodeLemmas.{each-head}
+use Rattle.hare_written.proofs.Fitting.NodeLists.{each-head}
 
 -- ---- in later stores
 

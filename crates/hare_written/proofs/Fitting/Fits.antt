@@ -25,7 +25,7 @@ use Rattle.hare_walk.specs.Walks.{Each}
 use Rattle.hare_walk.proofs.Grows.{later-grown}
 use Rattle.rule_judge.proofs.DefinedLemmas.{row_stays, within_stays}
 use Rattle.hare_written.specs.Nodes.{IsIn, StandsIn, IsFirst}
-use Rattle.hare_written.proofs.NodeLemmas.{each-map, each-both, each-from, each-of, first-at}
+use Rattle.hare_written.proofs.Fitting.NodeLists.{each-map, each-both, each-from, each-of, first-at}
 
 -- ---- growth
 

@@ -38,7 +38,7 @@ use Rattle.hare_written.specs.Judged.{large_stop}
 use Rattle.hare_written.specs.Nodes.{is_written, seen_of}
 use Rattle.hare_written.specs.Roles.{role_in}
 use Rattle.hare_written.specs.Turns.{IsAt, IsTypeFound, IsTurned}
-use Rattle.hare_written.proofs.KindLemmas.{written-target, written-late, written-locals, written-yields}
+use Rattle.hare_written.proofs.PartOfType.Kinds.{written-target, written-late, written-locals, written-yields}
 
 -- ---- what has been seen behind it
 

@@ -28,8 +28,9 @@ use Rattle.hare_walk.proofs.Steps.{each_end, infer_at, stop_kids, stop-same}
 use Rattle.hare_written.specs.Nodes.{nodes_in, StandsIn, IsFirst, coercions_of, seen_of, HasOwn, HaveOwn}
 use Rattle.hare_written.specs.Judged.{large_stop, IsJudged, IsStopped, AreAllJudged, AreStopped}
 use Rattle.hare_written.specs.Turns.{IsAt, IsTurned, IsTurn, IsTurnedBack}
-use Rattle.hare_written.proofs.FitLemmas.{grown-later, grown-measures, measures-trans, stands-stay, fits-stay}
-use Rattle.hare_written.proofs.NodeLemmas.{coerced, each-join, each-left, each-right, first-split, coercions-join, owns-front, owns-hand}
+use Rattle.hare_written.proofs.Fitting.Fits.{grown-later, grown-measures, measures-trans, stands-stay, fits-stay}
+use Rattle.hare_written.proofs.Fitting.NodeLists.{coerced, each-join, each-left, each-right, first-split, coercions-join, owns-front}
+use Rattle.hare_written.proofs.Fitting.NodeLists.{owns-hand}
 
 branched : (t : Node) (ts : Nodes) → ts ≡ kids_of t → branch (head t) ts ≡ t
 branched (branch h us) ts e = ap (branch h) e

@@ -51,8 +51,8 @@ use Rattle.rule_types.proofs.ToldLemmas.{types_are_told}
 use Rattle.hare_written.specs.Nodes.{is_around, is_written, IsIn, seen_of}
 use Rattle.hare_written.specs.Program.{program_over}
 use Rattle.hare_written.specs.Turns.{FitsTy, IsAt, IsTypeFound, IsTurnedBack}
-use Rattle.hare_written.proofs.KindLemmas.{type-written, around-written, length-written, type-unasked, around-unasked, around-small, length-small, written-meaning}
-use Rattle.hare_written.proofs.TurnLemmas.{refused}
+use Rattle.hare_written.proofs.PartOfType.Kinds.{type-written, around-written, length-written, type-unasked, around-unasked, around-small, length-small, written-meaning}
+use Rattle.hare_written.proofs.PartOfType.Turn.{refused}
 
 -- what is no type, or may have any number of bytes, fits
 no-row : (h : Head) (b : Ty) → ((o : Option Row) → size_row_by h.kind o ≡ None) → (s : Store) → FitsTy s h b

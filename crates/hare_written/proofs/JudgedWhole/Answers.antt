@@ -16,7 +16,7 @@ use Rattle.hare_whole.specs.Declared.{over_type, before_type}
 use Rattle.hare_written.specs.Judged.{IsJudged, IsStopped}
 use Rattle.hare_written.specs.Nodes.{coercions_of, seen_of}
 use Rattle.hare_written.specs.Trees.{HasFault, IsWrittenTree, IsWrittenStop}
-use Rattle.hare_written.proofs.FitLemmas.{all-fit, fit-all, stand-all, first-large}
+use Rattle.hare_written.proofs.Fitting.Fits.{all-fit, fit-all, stand-all, first-large}
 
 -- where inference stops there is the fault
 stop-fault : (w : Store → Setting) (f : Store) (n : ℕ) (role : Role) (t : Node) (e : Fault) →
