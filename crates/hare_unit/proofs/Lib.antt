@@ -1,8 +1,3 @@
-mod StoreLemmas
-mod FinishedLemmas
-mod PhaseLemmas
-mod CompleteLemmas
-mod TagLemmas
-mod NameLemmas
-mod ProgramLemmas
-mod BoundLemmas
+mod StoresAtEnd
+mod PhaseByPhase
+mod WholeProgram

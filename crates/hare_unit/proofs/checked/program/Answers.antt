@@ -7,9 +7,9 @@ use Rattle.hare_filed.specs.Filed.{AreFiled}
 use Rattle.hare_walk.proofs.Steps.{err_same}
 use Rattle.hare_unit.specs.Programs.{IsProgramStop, IsOnlyProgramStop, IsEnded, IsLimitStop, listing_of}
 use Rattle.hare_sources.proofs.ReadLemmas.{length-read}
-use Rattle.hare_unit.proofs.BoundLemmas.{locals-bound}
-use Rattle.hare_unit.proofs.CompleteLemmas.{is-complete}
-use Rattle.hare_unit.proofs.ProgramLemmas.{Names, Phases, early-stops, phase-stops, ended-stops, is-seen, judged-here, told-judged, only-early, only-phase, only-limit, is-faultless}
+use Rattle.hare_unit.proofs.WholeProgram.Bound.{locals-bound}
+use Rattle.hare_unit.proofs.WholeProgram.Complete.{is-complete}
+use Rattle.hare_unit.proofs.WholeProgram.Together.{Names, Phases, early-stops, phase-stops, ended-stops, is-seen, judged-here, told-judged, only-early, only-phase, only-limit, is-faultless}
 use Rattle.hare_unit.proofs.checked.program.Goals as goal
 
 pub returns-in_err-named-clause-err : goal.returns-in_err-named-clause-err

@@ -8,7 +8,7 @@ use Rattle.hare_depends.proofs.ListLemmas.{Contains-there}
 use Rattle.hare_defined.specs.Known.{AreDefined}
 use Rattle.hare_walk.proofs.Grows.{grown-refl, grown-trans, later-grown}
 use Rattle.hare_unit.specs.Finishing.{AreFinishedTo}
-use Rattle.hare_unit.proofs.FinishedLemmas.{Turn, none-finished, finished-more, all-finished, length-decls}
+use Rattle.hare_unit.proofs.PhaseByPhase.Finished.{Turn, none-finished, finished-more, all-finished, length-decls}
 use Rattle.hare_unit.proofs.finished.finish_all.Goals as goal
 
 pub loop-i-init : goal.loop-i-init

@@ -1,4 +1,4 @@
-use Rattle.hare_unit.proofs.NameLemmas.{names-once}
+use Rattle.hare_unit.proofs.WholeProgram.Names.{names-once}
 use Rattle.hare_unit.proofs.laws.law_names_are_one.Goals as goal
 
 pub returns : goal.returns

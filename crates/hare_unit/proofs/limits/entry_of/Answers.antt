@@ -2,7 +2,7 @@ use Rattle.std.proofs.Common.{sym, subst}
 use Rattle.hare_whole.specs.Limits.{AreWithinLimits}
 use Rattle.hare_walk.proofs.Steps.{err_same}
 use Rattle.hare_unit.specs.Programs.{IsLimitStop}
-use Rattle.hare_unit.proofs.ProgramLemmas.{IsListed, limit-stops, is-ended}
+use Rattle.hare_unit.proofs.WholeProgram.Together.{IsListed, limit-stops, is-ended}
 use Rattle.hare_unit.proofs.limits.entry_of.Goals as goal
 
 pub returns-in_err-number-clause-err : goal.returns-in_err-number-clause-err

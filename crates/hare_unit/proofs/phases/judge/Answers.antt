@@ -2,7 +2,8 @@ use Rattle.hare_tree.specs.declared.stop.Stop.TheVariants.{Memory}
 use Rattle.hare_whole.specs.Judged.{IsFinal}
 use Rattle.hare_walk.proofs.Steps.{err_same}
 use Rattle.hare_unit.specs.Programs.{listing_of, IsPhaseStop}
-use Rattle.hare_unit.proofs.PhaseLemmas.{AreJudgedWith, AreFinishedWith, circle-stops, declaration-stops, body-stops, judged-finished}
+use Rattle.hare_unit.proofs.PhaseByPhase.ToBodies.{AreJudgedWith, AreFinishedWith, circle-stops, declaration-stops, body-stops}
+use Rattle.hare_unit.proofs.PhaseByPhase.ToBodies.{judged-finished}
 use Rattle.hare_unit.proofs.phases.judge.Goals as goal
 
 pub returns-in_err-plan-clause-err : goal.returns-in_err-plan-clause-err

@@ -25,7 +25,7 @@ use Rattle.hare_declarations.specs.Judged.{IsJudgedAs}
 use Rattle.hare_declarations.proofs.WhileStoresGrow.Stores.{grown-to}
 use Rattle.hare_joined.specs.Joined.{AreFinished, FinishedAreTyped}
 use Rattle.hare_unit.specs.Programs.{listing_of, OverEnds, AreJudged, IsFaultBehindNames, IsPhaseStop}
-use Rattle.hare_unit.proofs.StoreLemmas.{final-grown}
+use Rattle.hare_unit.proofs.StoresAtEnd.Stores.{final-grown}
 
 pub circle-stops : (n : Named) (e : Stop Fault) → StopsAtCircle (saids (listing_of n)) e → IsPhaseStop n e
 circle-stops n Memory h = tt

@@ -28,10 +28,10 @@ use Rattle.hare_sole.specs.Checked.{AreChecked, PhaseFaultsAreOne, CheckedOrFaul
 use Rattle.hare_unit.specs.declared.phases.Typing.{Typing}
 use Rattle.hare_unit.specs.declared.checked.Checked.{Checked}
 use Rattle.hare_unit.specs.Programs.{OverEnds, AreJudged, IsFaultBehindNames, IsFaultOfProgram, IsProgramStop, IsOnlyFaultOfPhases, IsOnlyFaultOfProgram, IsOnlyProgramStop, IsFaultless, listing_by, listing_of, IsTypedBy, IsPhaseStop, IsEnded, IsLimitStop}
-use Rattle.hare_unit.proofs.StoreLemmas.{end-here, listed-later, listed-grown, final-grown}
-use Rattle.hare_unit.proofs.NameLemmas.{names-once}
-use Rattle.hare_unit.proofs.CompleteLemmas.{IsSeen}
-use Rattle.hare_unit.proofs.TagLemmas.{tag_list-relisted}
+use Rattle.hare_unit.proofs.StoresAtEnd.Stores.{end-here, listed-later, listed-grown, final-grown}
+use Rattle.hare_unit.proofs.WholeProgram.Names.{names-once}
+use Rattle.hare_unit.proofs.WholeProgram.Complete.{IsSeen}
+use Rattle.hare_unit.proofs.StoresAtEnd.Tags.{tag_list-relisted}
 
 pub early-stops : (paths srcs : List (List ℕ)) (e : Stop Fault) → Stops (IsEarlyFault paths srcs) e → IsProgramStop paths srcs e
 early-stops paths srcs Memory h = tt
