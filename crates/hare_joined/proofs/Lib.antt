@@ -1,7 +1,2 @@
-mod FindLemmas
-mod KnownLemmas
-mod AgreeLemmas
-mod TypeLemmas
-mod FinishLemmas
-mod PartLemmas
-mod JoinedLemmas
+mod KnownWhileJudged
+mod FinishedTrees

@@ -1,4 +1,4 @@
-use Rattle.hare_joined.proofs.JoinedLemmas.{finished_are_typed}
+use Rattle.hare_joined.proofs.FinishedTrees.Together.{finished_are_typed}
 use Rattle.hare_joined.proofs.laws.law_finished_are_typed.Goals as goal
 
 pub returns : goal.returns

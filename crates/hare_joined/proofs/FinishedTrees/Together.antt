@@ -24,12 +24,12 @@ use Rattle.hare_turns.specs.Judged.{EndsAreJudged}
 use Rattle.hare_finish.specs.Finished.{ArePartsOf, IsFinishedIn}
 use Rattle.hare_declarations.specs.declared.parts.Parts.{Parts}
 use Rattle.hare_joined.specs.Joined.{FinishedAreTyped}
-use Rattle.hare_joined.proofs.FindLemmas.{known-found}
-use Rattle.hare_joined.proofs.KnownLemmas.{unknown-beyond}
-use Rattle.hare_joined.proofs.AgreeLemmas.{ArePartsOf-same}
-use Rattle.hare_joined.proofs.TypeLemmas.{has_one_type}
-use Rattle.hare_joined.proofs.FinishLemmas.{IsEachAt, each-finished, each-at, each-beyond, each-erased}
-use Rattle.hare_joined.proofs.PartLemmas.{AreJoined, IsPartOf, parts_are, known_is}
+use Rattle.hare_joined.proofs.KnownWhileJudged.Found.{known-found}
+use Rattle.hare_joined.proofs.KnownWhileJudged.Known.{unknown-beyond}
+use Rattle.hare_joined.proofs.KnownWhileJudged.Agreement.{ArePartsOf-same}
+use Rattle.hare_joined.proofs.FinishedTrees.Types.{has_one_type}
+use Rattle.hare_joined.proofs.FinishedTrees.Numbered.{IsEachAt, each-finished, each-at, each-beyond, each-erased}
+use Rattle.hare_joined.proofs.FinishedTrees.Parts.{AreJoined, IsPartOf, parts_are, known_is}
 
 module _ (ends : EndsAreJudged) (enough : ValuesAreEnough) (exact : InferenceIsExact) (p : Listing) (s r f l : Store) (g : Stage)
     (vs : List (ℕ × TypedNode)) (qs : List Parts) (ds : List TypedNode) (h : AreJoined p s r f l g vs qs ds) where

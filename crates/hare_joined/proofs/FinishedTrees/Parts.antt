@@ -28,7 +28,7 @@ use Rattle.hare_turns.specs.Known.{IsKnownAs}
 use Rattle.hare_finish.specs.Finished.{IsValued, IsBodyBy, HasBody, ArePartsOf, said_by_value, said_by_parts}
 use Rattle.hare_declarations.specs.declared.parts.Parts.{Parts}
 use Rattle.hare_declarations.specs.Judged.{AreParts}
-use Rattle.hare_joined.proofs.FinishLemmas.{IsFinishedAs, AreEach}
+use Rattle.hare_joined.proofs.FinishedTrees.Numbered.{IsFinishedAs, AreEach}
 
 -- ---- the premises
 

@@ -16,7 +16,7 @@ use Rattle.hare_whole.specs.Listing.{Listing, IsDecl}
 use Rattle.hare_whole.specs.Parts.{def_known, global_known}
 use Rattle.hare_whole.specs.Turns.{Stage, Step, setting_at, typed_at, type_or_plain, is_def, known_by_types, known_by_value, Passes, Goes}
 use Rattle.hare_turns.specs.Stages.{known_of}
-use Rattle.hare_joined.proofs.FindLemmas.{known_of-there}
+use Rattle.hare_joined.proofs.KnownWhileJudged.Found.{known_of-there}
 
 -- ---- one step
 
