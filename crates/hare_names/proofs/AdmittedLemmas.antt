@@ -9,7 +9,7 @@ use Rattle.hare_modules.specs.Modules.{Module, Source, is_known}
 use Rattle.hare_modules.specs.Uses.{Import, imports}
 use Rattle.hare_modules.specs.Declarations.{Item, items, item_named, exports, firsts}
 use Rattle.hare_modules.specs.Admitted.{Triple, own_triples, imported_triples, first_imports, same_names, admitted, admitted_module}
-use Rattle.hare_directory.proofs.FoundLemmas.{find-map, find-filter, find-kept, find-firsts, option_map-or, option_or-none}
+use Rattle.hare_directory.proofs.TakenNames.First.{find-map, find-filter, find-kept, find-firsts, option_map-or, option_or-none}
 
 -- ---- the first of each name
 

@@ -12,7 +12,7 @@ use Rattle.hare_modules.specs.Uses.{text_of}
 use Rattle.hare_modules.specs.Repeated.{repeated_behind}
 use Rattle.hare_modules.proofs.Trees.{listed-nodes_of}
 use Rattle.hare_modules.proofs.ListLemmas.{drop-there, drop-past}
-use Rattle.hare_directory.proofs.FoundLemmas.{names-symmetric}
+use Rattle.hare_directory.proofs.TakenNames.First.{names-symmetric}
 use Rattle.hare_names.specs.Doubling.{names_with, first_with}
 use Rattle.hare_names.specs.Spots.{is_idle}
 use Rattle.hare_names.specs.Doubled.{has_names, is_named, same_text, doubled_fault, doubled_kids, doubled_in, doubled_among}

@@ -6,7 +6,7 @@ use Rattle.std.specs.List.{list_any, enumerate_from}
 use Rattle.std.proofs.lemmas.List.{map-append}
 use Rattle.std.proofs.lemmas.List.Folds.{find-append}
 use Rattle.hare_tree.specs.Node.{Node}
-use Rattle.hare_directory.proofs.FoundLemmas.{names-symmetric, find-filter, find-firsts, enumerate_from-append}
+use Rattle.hare_directory.proofs.TakenNames.First.{names-symmetric, find-filter, find-firsts, enumerate_from-append}
 use Rattle.hare_tree.specs.declared.token.Meaning.{Meaning}
 use Rattle.hare_tree.specs.declared.token.Meaning.TheVariants as me
 use Rattle.hare_modules.specs.Modules.{Module, Source, is_known, runtime}

@@ -11,7 +11,7 @@ use Rattle.hare_tree.specs.declared.tree.FileTree.{FileTree}
 use Rattle.hare_tree.specs.Node.{Node}
 use Rattle.hare_modules.specs.Order.{fault, earlier, same_place}
 use Rattle.hare_modules.specs.Directory.{Directory}
-use Rattle.hare_directory.proofs.FoundLemmas.{option_or-none}
+use Rattle.hare_directory.proofs.TakenNames.First.{option_or-none}
 use Rattle.hare_names.specs.declared.notes.Notes.{Notes}
 use Rattle.hare_names.specs.declared.verdict.Verdict.{Verdict}
 use Rattle.hare_names.specs.declared.verdict.Verdict.TheVariants.{Means, Fails}

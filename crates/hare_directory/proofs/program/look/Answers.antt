@@ -6,7 +6,7 @@ use Rattle.hare_modules.specs.Order.{TellsFirst, first_in}
 use Rattle.hare_modules.specs.CirclesIn.{imports_graph, IsCircleIn}
 use Rattle.std.specs.List.{filter_map}
 use Rattle.hare_modules.proofs.SourceLemmas.{usings-within}
-use Rattle.hare_directory.proofs.LookLemmas.{look-tables, look-first}
+use Rattle.hare_directory.proofs.ByNumbers.Look.{look-tables, look-first}
 use Rattle.hare_directory.proofs.program.look.Goals as goal
 
 pub first_circle-requires : goal.first_circle-requires

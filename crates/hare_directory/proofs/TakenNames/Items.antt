@@ -21,7 +21,7 @@ use Rattle.hare_modules.specs.Entries.{entry, entry_of}
 use Rattle.hare_modules.specs.Numbering.{AreHomes, IsNumbering}
 use Rattle.hare_modules.specs.Takings.{Taking, is_import, named, number_used, use_takings, decl_takings, takings}
 use Rattle.hare_modules.specs.Taken.{declared, declares, declared_among, built_in_taking, built_in_takings}
-use Rattle.hare_directory.proofs.FoundLemmas.{names-symmetric, find-filter, find-firsts, option_map-or, found, found-append, enumerate_from-append}
+use Rattle.hare_directory.proofs.TakenNames.First.{names-symmetric, find-filter, find-firsts, option_map-or, found, found-append, enumerate_from-append}
 
 -- two modules are one where their numbers are
 pub number-same : (ms known : List Module) (homes : List ℕ) → IsNumbering ms known homes → (h k : ℕ) (a m : Module) →

@@ -15,7 +15,7 @@ use Rattle.hare_modules.specs.Repeated.{Claim, clash, claims_of, repeated_behind
 use Rattle.hare_modules.specs.Numbering.{AreHomes, IsNumbering}
 use Rattle.hare_modules.specs.Takings.{Taking, is_import, clashes, named, import_taker, number_used, use_takings, decl_takings, takings}
 use Rattle.hare_modules.specs.Taken.{built_in_taking, built_in_takings}
-use Rattle.hare_directory.proofs.ItemLemmas.{number-same}
+use Rattle.hare_directory.proofs.TakenNames.Items.{number-same}
 
 -- the name that is taken is the claim, by the number of its module
 pub record Stands (known : List Module) (c : Claim) (k : Taking) : Type 0 where

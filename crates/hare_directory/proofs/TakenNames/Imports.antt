@@ -16,7 +16,7 @@ use Rattle.hare_modules.specs.Numbering.{AreHomes}
 use Rattle.hare_modules.specs.Takings.{Taking, is_import, named, import_taker, number_used, use_takings, decl_takings, takings}
 use Rattle.hare_modules.specs.Taken.{imported as imported_by, imports_at}
 use Rattle.hare_modules.specs.Directory.{imported}
-use Rattle.hare_directory.proofs.FoundLemmas.{names-symmetric, option_map-or, option_or-none, found, found-append}
+use Rattle.hare_directory.proofs.TakenNames.First.{names-symmetric, option_map-or, option_or-none, found, found-append}
 
 module _ (known : List Module) (f : ℕ) (x : List ℕ) where
   abbrev is_it : Import → Bool

@@ -20,11 +20,11 @@ use Rattle.hare_modules.proofs.NumberLemmas.{position-is, position-of, some-modu
 use Rattle.hare_modules.proofs.SourceLemmas.{usings-within, circle-to, circle-from, numbered-known, unknown-all, runtime-all}
 use Rattle.hare_modules.proofs.OrderLemmas.{first-of-both, first-of-same, first-in}
 use Rattle.hare_modules.proofs.TellsLemmas.{tells-all, tells-first, sized-first, filed-first, repeated-is, ArePlaced}
-use Rattle.hare_directory.proofs.ItemLemmas.{items-told}
-use Rattle.hare_directory.proofs.ImportLemmas.{imports-told}
-use Rattle.hare_directory.proofs.PlacedLemmas.{takings-placed}
-use Rattle.hare_directory.proofs.ClaimLemmas.{repeated-are}
-use Rattle.hare_directory.proofs.MemberLemmas.{members-same}
+use Rattle.hare_directory.proofs.TakenNames.Items.{items-told}
+use Rattle.hare_directory.proofs.TakenNames.Imports.{imports-told}
+use Rattle.hare_directory.proofs.TakenNames.Placed.{takings-placed}
+use Rattle.hare_directory.proofs.ByNumbers.Claims.{repeated-are}
+use Rattle.hare_directory.proofs.ByNumbers.Members.{members-same}
 use Rattle.std.proofs.Common.{get_or}
 
 -- the numbers of a program's modules, and the tables of what is taken
