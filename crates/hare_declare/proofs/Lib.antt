@@ -1,6 +1,2 @@
-pub mod SeenLemmas
-pub mod GraphLemmas
-pub mod EnteredLemmas
-pub mod NomemLemmas
-pub mod ListingLemmas
-pub mod DeclaredLemmas
+pub mod TypesEntered
+pub mod TypesSeen

@@ -5,8 +5,8 @@ use Rattle.hare_whole.specs.Listing.{Listing}
 use Rattle.hare_declare.specs.Outlines.{outlines}
 use Rattle.hare_declare.specs.Lacking.{AreWithin, TellsLacking}
 use Rattle.hare_declare.specs.Entered.{AreEntered}
-use Rattle.hare_declare.proofs.ListingLemmas.{are-within}
-use Rattle.hare_declare.proofs.DeclaredLemmas.{declared}
+use Rattle.hare_declare.proofs.TypesSeen.Sizeless.{are-within}
+use Rattle.hare_declare.proofs.TypesSeen.Declared.{declared}
 use Rattle.hare_declare.proofs.declare.declare_all.Goals as goal
 
 pub lacking-requires-clause-within : goal.lacking-requires-clause-within

@@ -1,6 +1,6 @@
 use Rattle.std.proofs.Common.{ap}
 use Rattle.hare_types.proofs.CallerLemmas.{Continues-refl}
-use Rattle.hare_declare.proofs.NomemLemmas.{refusal-sized, refusal-finite, row-stays, not-defined, keeps}
+use Rattle.hare_declare.proofs.TypesEntered.Nomem.{refusal-sized, refusal-finite, row-stays, not-defined, keeps}
 use Rattle.hare_declare.proofs.entered.enter_nomem.Goals as goal
 
 pub define-requires-clause-fresh : goal.define-requires-clause-fresh

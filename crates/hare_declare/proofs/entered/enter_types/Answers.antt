@@ -1,6 +1,6 @@
 use Rattle.std.proofs.Common.{refl, ◌∙◌}
 use Rattle.std.proofs.lemmas.Option.{slice_get-get_or}
-use Rattle.hare_declare.proofs.EnteredLemmas.{one-more, not-entered, same-listed, none-told}
+use Rattle.hare_declare.proofs.TypesEntered.OneByOne.{one-more, not-entered, same-listed, none-told}
 use Rattle.hare_declare.proofs.entered.enter_types.Goals as goal
 
 pub enter-requires : goal.enter-requires

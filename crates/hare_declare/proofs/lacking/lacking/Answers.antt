@@ -1,4 +1,4 @@
-use Rattle.hare_declare.proofs.GraphLemmas.{tells}
+use Rattle.hare_declare.proofs.TypesSeen.Graph.{tells}
 use Rattle.hare_declare.proofs.lacking.lacking.Goals as goal
 
 pub returns : goal.returns

@@ -1,6 +1,6 @@
 use Rattle.std.proofs.Common.{refl}
 use Rattle.std.proofs.lemmas.Option.{slice_get-get_or}
-use Rattle.hare_declare.proofs.GraphLemmas.{none-below, one-more, all-below}
+use Rattle.hare_declare.proofs.TypesSeen.Graph.{none-below, one-more, all-below}
 use Rattle.hare_declare.proofs.lacking.names_of.Goals as goal
 
 pub loop-decl-init : goal.loop-decl-init

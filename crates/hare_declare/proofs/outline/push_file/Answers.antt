@@ -1,6 +1,6 @@
 use Rattle.hare_names.specs.Answers.{meaning_in}
 use Rattle.hare_declare.specs.Outlines.{outline_of}
-use Rattle.hare_declare.proofs.SeenLemmas.{one-more}
+use Rattle.hare_declare.proofs.TypesSeen.SeenTrees.{one-more}
 use Rattle.hare_declare.proofs.outline.push_file.Goals as goal
 
 pub loop-i-preserved : goal.loop-i-preserved

@@ -1,5 +1,5 @@
 use Rattle.hare_names.specs.Answers.{meaning_in}
-use Rattle.hare_declare.proofs.SeenLemmas.{marked-seen}
+use Rattle.hare_declare.proofs.TypesSeen.SeenTrees.{marked-seen}
 use Rattle.hare_declare.proofs.seen.+size_seen.Goals as goal
 
 pub returns-in-Some : goal.returns-in-Some

@@ -18,7 +18,7 @@ use Rattle.hare_declare.specs.declared.outline.Outline.{Outline}
 use Rattle.hare_declare.specs.Outlines.{is_type_kind, outline_of, outlines}
 use Rattle.hare_declare.specs.Lacking.{TellsLacking}
 use Rattle.hare_declare.specs.Entered.{IsTypeAt, AreEntered, KeepsBeside}
-use Rattle.hare_declare.proofs.ListingLemmas.{outline-at, outline-of, unsized-lacks, lacks-unsized}
+use Rattle.hare_declare.proofs.TypesSeen.Sizeless.{outline-at, outline-of, unsized-lacks, lacks-unsized}
 
 global-no-type : (b : Bool) → sort_of_global b ≡ so.Type → ⊥
 global-no-type true e = absurd cc

@@ -13,7 +13,7 @@ use Rattle.hare_types.specs.Rows.{tree_of, trees}
 use Rattle.hare_types.specs.Store.{Store, tree_at, sized_of, definition_of, with_declared}
 use Rattle.hare_types.specs.ByValue.{has_size, HoldsByValue}
 use Rattle.hare_declare.specs.Entered.{KeepsBeside}
-use Rattle.hare_declare.proofs.EnteredLemmas.{sized-kept, sized-pushed, definition-pushed}
+use Rattle.hare_declare.proofs.TypesEntered.OneByOne.{sized-kept, sized-pushed, definition-pushed}
 
 -- its tree, by the ids that it was entered with
 module _ (a b : Store) (v e : ℕ) (void : tree_at a v ≡ Some (Scalar keyword.Void))
