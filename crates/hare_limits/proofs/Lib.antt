@@ -1,6 +1,2 @@
-pub mod TreeLemmas
-pub mod FirstLemmas
-pub mod HomeLemmas
-pub mod SumLemmas
-pub mod PassedLemmas
-pub mod SoundLemmas
+pub mod EntryFound
+pub mod LimitsPassed

@@ -10,7 +10,7 @@ use Rattle.hare_whole.specs.Listing.{Listing, saids}
 use Rattle.hare_whole.specs.Judged.{AreTyped}
 use Rattle.hare_whole.specs.Limits.{IsEntry, IsLimitFault}
 use Rattle.hare_whole.specs.Turns.{Stage, AreJudged, IsDeclarationFault}
-use Rattle.hare_limits.proofs.SoundLemmas.{limits-sound}
+use Rattle.hare_limits.proofs.LimitsPassed.Within.{limits-sound}
 use Rattle.hare_whole.specs.Judged.{AreFaultless, IsFaultOfPhases, of_circles, of_declarations, of_bodies, of_limits}
 use Rattle.hare_sole.specs.Checked.{AreChecked, PhaseFaultsAreOne, CheckedOrFaulty, LimitsAreLeft, TypedTreesAreOne}
 use Rattle.hare_sole.proofs.OneFault.Steps.{Inference}

@@ -4,8 +4,8 @@ use Rattle.hare_typed.specs.Erased.{erase}
 use Rattle.hare_modules.specs.Order.{fault}
 use Rattle.hare_modules.specs.Uses.{place_of}
 use Rattle.hare_whole.specs.Limits.{main_of, no_main, odd_main}
-use Rattle.hare_limits.proofs.TreeLemmas.{erased-there}
-use Rattle.hare_limits.proofs.HomeLemmas.{main-same}
+use Rattle.hare_limits.proofs.EntryFound.Kids.{erased-there}
+use Rattle.hare_limits.proofs.EntryFound.Home.{main-same}
 use Rattle.hare_limits.proofs.entries.entry.Goals as goal
 
 pub returns-in_default-clause-err : goal.returns-in_default-clause-err

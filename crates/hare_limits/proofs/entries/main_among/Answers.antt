@@ -2,8 +2,8 @@ use Rattle.std.proofs.Common.{◌≤◌, length, map, sym, ◌∙◌, arith}
 use Rattle.std.proofs.lemmas.List.{length-map}
 use Rattle.hare_typed.specs.Erased.{erase}
 use Rattle.hare_limits.specs.Homes.{is_main_by}
-use Rattle.hare_limits.proofs.TreeLemmas.{erased-there}
-use Rattle.hare_limits.proofs.FirstLemmas.{none-more, position-here, position-nowhere, below-mapped}
+use Rattle.hare_limits.proofs.EntryFound.Kids.{erased-there}
+use Rattle.hare_limits.proofs.EntryFound.First.{none-more, position-here, position-nowhere, below-mapped}
 use Rattle.hare_limits.proofs.entries.main_among.Goals as goal
 
 pub returns-then-is_main : goal.returns-then-is_main

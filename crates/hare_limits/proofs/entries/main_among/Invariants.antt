@@ -1,6 +1,6 @@
 use Rattle.hare_typed.specs.Erased.{erase}
 use Rattle.hare_limits.specs.Homes.{is_main_by}
-use Rattle.hare_limits.proofs.FirstLemmas.{NoneBelow}
+use Rattle.hare_limits.proofs.EntryFound.First.{NoneBelow}
 use Rattle.hare_limits.proofs.entries.main_among.Given as goal
 
 -- none so far is `main`

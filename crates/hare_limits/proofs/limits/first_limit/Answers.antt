@@ -1,7 +1,7 @@
 use Rattle.std.proofs.Common.{subst, None}
 use Rattle.hare_limits.specs.Stops.{TellsPassed}
-use Rattle.hare_limits.proofs.SoundLemmas.{limits-sound}
-use Rattle.hare_limits.proofs.PassedLemmas.{entry-stops, passed-limit}
+use Rattle.hare_limits.proofs.LimitsPassed.Within.{limits-sound}
+use Rattle.hare_limits.proofs.LimitsPassed.Passed.{entry-stops, passed-limit}
 use Rattle.hare_limits.proofs.limits.first_limit.Goals as goal
 
 pub returns-in-Some-clause-err : goal.returns-in-Some-clause-err

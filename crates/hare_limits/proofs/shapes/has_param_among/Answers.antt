@@ -4,8 +4,8 @@ use Rattle.hare_tree.specs.Node.{head}
 use Rattle.hare_typed.specs.Typed.{TypedNode}
 use Rattle.hare_typed.specs.Erased.{erase}
 use Rattle.hare_whole.specs.Limits.{is_param}
-use Rattle.hare_limits.proofs.TreeLemmas.{erased-there}
-use Rattle.hare_limits.proofs.FirstLemmas.{none-more, any-here, any-nowhere, below-mapped}
+use Rattle.hare_limits.proofs.EntryFound.Kids.{erased-there}
+use Rattle.hare_limits.proofs.EntryFound.First.{none-more, any-here, any-nowhere, below-mapped}
 use Rattle.hare_limits.proofs.shapes.has_param_among.Goals as goal
 
 pub returns-then-is_param : goal.returns-then-is_param

@@ -1,7 +1,7 @@
 use Rattle.hare_tree.specs.Node.{head}
 use Rattle.hare_typed.specs.Erased.{erase}
 use Rattle.hare_whole.specs.Limits.{is_param}
-use Rattle.hare_limits.proofs.FirstLemmas.{NoneBelow}
+use Rattle.hare_limits.proofs.EntryFound.First.{NoneBelow}
 use Rattle.hare_limits.proofs.shapes.has_param_among.Given as goal
 
 -- none so far is a parameter

@@ -3,7 +3,7 @@ use Rattle.std.specs.List.{list_any}
 use Rattle.hare_tree.specs.Node.{Node, head}
 use Rattle.hare_modules.specs.Uses.{kids}
 use Rattle.hare_whole.specs.Limits.{is_param}
-use Rattle.hare_limits.proofs.TreeLemmas.{kids-erased}
+use Rattle.hare_limits.proofs.EntryFound.Kids.{kids-erased}
 use Rattle.hare_limits.proofs.shapes.has_params.Goals as goal
 
 pub returns : goal.returns

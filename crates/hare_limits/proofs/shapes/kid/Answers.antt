@@ -1,4 +1,4 @@
-use Rattle.hare_limits.proofs.TreeLemmas.{kid-get, kid-none}
+use Rattle.hare_limits.proofs.EntryFound.Kids.{kid-get, kid-none}
 use Rattle.hare_limits.proofs.shapes.kid.Goals as goal
 
 pub returns-in-Some : goal.returns-in-Some

@@ -3,7 +3,7 @@ use Rattle.hare_typed.specs.Typed.{TypedNode}
 use Rattle.hare_typed.specs.Erased.{erase}
 use Rattle.hare_modules.specs.Order.{fault}
 use Rattle.hare_modules.specs.Uses.{place_of}
-use Rattle.hare_limits.proofs.SumLemmas.{summed-more, weight-passes, size-passes, bytes-there}
+use Rattle.hare_limits.proofs.LimitsPassed.Sums.{summed-more, weight-passes, size-passes, bytes-there}
 use Rattle.hare_limits.proofs.sums.first_large_sum.Goals as goal
 
 pub overflow_add-size : goal.overflow_add-size

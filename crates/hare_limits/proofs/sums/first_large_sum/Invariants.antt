@@ -1,4 +1,4 @@
-use Rattle.hare_limits.proofs.SumLemmas.{Summed}
+use Rattle.hare_limits.proofs.LimitsPassed.Sums.{Summed}
 use Rattle.hare_limits.proofs.sums.first_large_sum.Given as goal
 
 -- what the declarations so far have together

@@ -7,7 +7,7 @@ use Rattle.hare_modules.specs.Modules.{Module, module_of, same_module}
 use Rattle.hare_modules.specs.Uses.{place_of, text_of}
 use Rattle.hare_modules.specs.Declarations.{name_in}
 use Rattle.hare_whole.specs.Limits.{home_of, is_main, is_function, main_of}
-use Rattle.hare_limits.proofs.FirstLemmas.{position-same}
+use Rattle.hare_limits.proofs.EntryFound.First.{position-same}
 use Rattle.hare_limits.specs.Homes.{belonging, kept_or, is_home, AreHomes, is_main_by}
 
 -- what is kept of a file is whether it belongs to the module
