@@ -1,5 +1,2 @@
-pub mod ExtentLemmas
-pub mod FollowLemmas
-pub mod KnownLemmas
-pub mod ListLemmas
-pub mod WordLemmas
+pub mod FollowedNames
+pub mod OneMore

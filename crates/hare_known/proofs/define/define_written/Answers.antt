@@ -1,5 +1,5 @@
 use Rattle.std.proofs.Common.{Some, ap, ◌∙◌}
-use Rattle.hare_known.proofs.ListLemmas.{written-first}
+use Rattle.hare_known.proofs.OneMore.WrittenTypes.{written-first}
 use Rattle.hare_known.proofs.define.define_written.Goals as goal
 
 pub returns-clause-ok : goal.returns-clause-ok

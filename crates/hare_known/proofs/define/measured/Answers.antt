@@ -1,6 +1,6 @@
 use Rattle.std.proofs.Common.{Some, ap, sym, ◌∙◌}
-use Rattle.hare_known.proofs.ExtentLemmas.{extent-at-sized, extent-at-finite}
-use Rattle.hare_known.proofs.WordLemmas.{base-at-within, base-at-unsized, base-at-finite}
+use Rattle.hare_known.proofs.FollowedNames.Extents.{extent-at-sized, extent-at-finite}
+use Rattle.hare_known.proofs.FollowedNames.Words.{base-at-within, base-at-unsized, base-at-finite}
 use Rattle.hare_known.proofs.define.measured.Goals as goal
 
 pub returns-then-is_some-clause-sized : goal.returns-then-is_some-clause-sized

@@ -4,7 +4,7 @@ use Rattle.hare_typed.specs.declared.constant.Const.TheVariants as constant
 use Rattle.hare_rules.specs.Aggregates.{but_last}
 use Rattle.std.specs.Prelude.{map}
 use Rattle.hare_whole.specs.Parts.{written_id, known_as}
-use Rattle.hare_known.proofs.ListLemmas.{written-last}
+use Rattle.hare_known.proofs.OneMore.WrittenTypes.{written-last}
 use Rattle.hare_known.proofs.entries.function_known.Goals as goal
 
 pub returns : goal.returns

@@ -2,8 +2,8 @@ use Rattle.std.proofs.Common.{[], ap, sym, ◌∙◌}
 use Rattle.hare_typed.specs.declared.constant.Const.TheVariants as constant
 use Rattle.hare_typed.specs.Order.{tree_from_front, missing}
 use Rattle.hare_whole.specs.Parts.{is_mutable, known_as}
-use Rattle.hare_known.proofs.KnownLemmas.{declared_id-written}
-use Rattle.hare_known.proofs.ListLemmas.{written-first}
+use Rattle.hare_known.proofs.OneMore.Declarations.{declared_id-written}
+use Rattle.hare_known.proofs.OneMore.WrittenTypes.{written-first}
 use Rattle.hare_known.proofs.entries.global_known.Goals as goal
 
 pub returns : goal.returns

@@ -2,7 +2,7 @@ use Rattle.std.proofs.Common.{arith}
 use Rattle.std.specs.Prelude.{map}
 use Rattle.hare_rules.specs.Aggregates.{but_last}
 use Rattle.hare_whole.specs.Parts.{written_id}
-use Rattle.hare_known.proofs.ListLemmas.{parameters-more, parameters-all}
+use Rattle.hare_known.proofs.OneMore.WrittenTypes.{parameters-more, parameters-all}
 use Rattle.hare_known.proofs.entries.parameters_of.Goals as goal
 
 pub loop-i-preserved : goal.loop-i-preserved

@@ -2,7 +2,7 @@ use Rattle.std.proofs.Common.{◌≡◌, subst}
 use Rattle.std.specs.Prelude.{IfSome}
 use Rattle.hare_tree.specs.declared.kind.Kind.TheVariants as ki
 use Rattle.hare_rules.specs.declared.declared.DeclType.{DeclType}
-use Rattle.hare_known.proofs.KnownLemmas.{AreDefsDefined-push, AreDefsDefined-grown}
+use Rattle.hare_known.proofs.OneMore.Declarations.{AreDefsDefined-push, AreDefsDefined-grown}
 use Rattle.hare_known.proofs.types.know_types.Goals as goal
 
 pub returns-in_err-d-clause-defs : goal.returns-in_err-d-clause-defs

@@ -2,7 +2,7 @@ use Rattle.std.proofs.Common.{ap, sym, ◌∙◌}
 use Rattle.hare_tree.specs.Node.{Node, head}
 use Rattle.hare_rules.specs.declared.declared.DeclType.{DeclType}
 use Rattle.hare_depends.specs.Sorts.{sort_of}
-use Rattle.hare_known.proofs.KnownLemmas.{global-no_def, known_by_types-global}
+use Rattle.hare_known.proofs.OneMore.Declarations.{global-no_def, known_by_types-global}
 use Rattle.hare_known.proofs.types.known_by_types.Goals as goal
 
 pub returns-in_ok-d-in-Global-clause-value : goal.returns-in_ok-d-in-Global-clause-value

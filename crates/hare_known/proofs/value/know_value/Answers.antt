@@ -1,4 +1,4 @@
-use Rattle.hare_known.proofs.KnownLemmas.{AreDefsDefined-push, AreDefsDefined-grown, AreDefined-grown}
+use Rattle.hare_known.proofs.OneMore.Declarations.{AreDefsDefined-push, AreDefsDefined-grown, AreDefined-grown}
 use Rattle.hare_known.proofs.value.know_value.Goals as goal
 
 pub returns-in_err-ty-clause-defined : goal.returns-in_err-ty-clause-defined

@@ -14,7 +14,7 @@ use Rattle.hare_types.specs.Bases.{IsBaseOf}
 use Rattle.hare_types.specs.Layout.{base_with, IsBase}
 use Rattle.hare_types.proofs.TreeLemmas.{length-trees}
 use Rattle.hare_types.proofs.CallerLemmas.{tree_at_row}
-use Rattle.hare_known.proofs.FollowLemmas.{one_held, none_held, Sizes, no_way, sized_names, here}
+use Rattle.hare_known.proofs.FollowedNames.Follow.{one_held, none_held, Sizes, no_way, sized_names, here}
 
 abbrev IsUnsized : Tree → Type 0
 IsUnsized u = (k : Keyword) × (u ≡ Scalar k) × (is_some (scalar_size k) ≡ false)

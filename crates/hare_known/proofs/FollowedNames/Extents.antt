@@ -11,7 +11,7 @@ use Rattle.hare_types.specs.Store.{Store, tree_at, definition_of, meaning_of}
 use Rattle.hare_types.specs.Sound.{IsStore}
 use Rattle.hare_types.specs.Kept.{LiesIn, told}
 use Rattle.hare_types.specs.Layout.{scalar_extent, fields_extent, union_extent, extent_with, extents_with, HasExtent}
-use Rattle.hare_known.proofs.FollowLemmas.{mapped, chained, one_held, none_held, Sizes, no_way, sized_names, here}
+use Rattle.hare_known.proofs.FollowedNames.Follow.{mapped, chained, one_held, none_held, Sizes, no_way, sized_names, here}
 
 abbrev IsAny : Extent → Type 0
 IsAny x = Unit {0}
