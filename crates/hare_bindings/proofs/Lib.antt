@@ -1,5 +1,2 @@
-pub mod RowLemmas
-pub mod KidLemmas
-pub mod PlaceLemmas
-pub mod NodeLemmas
-pub mod BindingLemmas
+pub mod ToldOfNode
+pub mod FoundOfDeclaration

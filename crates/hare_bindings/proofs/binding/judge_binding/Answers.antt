@@ -3,7 +3,7 @@ use Rattle.rule_judge.specs.Defined.{IsDefinedTy}
 use Rattle.rule_judge.proofs.DefinedLemmas.{defined_stays, ty_stays}
 use Rattle.hare_bindings.specs.Bindings.{IsBinding, IsBindingStop}
 use Rattle.hare_bindings.specs.Own.{MeetsRows, IsRowsStop}
-use Rattle.hare_bindings.proofs.BindingLemmas.{ok_then, ok_always, err_then, binding_meets, binding_stops}
+use Rattle.hare_bindings.proofs.FoundOfDeclaration.OverKids.{ok_then, ok_always, err_then, binding_meets, binding_stops}
 use Rattle.hare_bindings.proofs.binding.judge_binding.Goals as goal
 
 pub returns-clause-ok : goal.returns-clause-ok

@@ -1,4 +1,4 @@
-use Rattle.hare_bindings.proofs.PlaceLemmas.{constant_there, value_type, place_among}
+use Rattle.hare_bindings.proofs.FoundOfDeclaration.Inconstant.{constant_there, value_type, place_among}
 use Rattle.hare_bindings.proofs.inconstant.inconstant_place.Goals as goal
 
 pub returns-then-has_constant-clause-place : goal.returns-then-has_constant-clause-place

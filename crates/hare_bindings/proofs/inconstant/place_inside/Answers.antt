@@ -1,6 +1,6 @@
 use Rattle.std.proofs.Common.{sym, subst}
 use Rattle.std.specs.Prelude.{IfOk}
-use Rattle.hare_bindings.proofs.PlaceLemmas.{IsPlaceInside, place_none, place_some}
+use Rattle.hare_bindings.proofs.FoundOfDeclaration.Inconstant.{IsPlaceInside, place_none, place_some}
 use Rattle.hare_bindings.proofs.inconstant.place_inside.Goals.{in-Ok, in-Err-Fault, in-Err-Memory}
 use Rattle.hare_bindings.proofs.inconstant.place_inside.Goals as goal
 

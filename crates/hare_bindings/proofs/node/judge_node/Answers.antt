@@ -2,7 +2,7 @@ use Rattle.hare_types.proofs.LaterLemmas.{later_trans}
 use Rattle.rule_judge.proofs.TurnLemmas.{grown_trans}
 use Rattle.hare_walk.proofs.Steps.{err_same}
 use Rattle.hare_bindings.specs.Own.{IsRowsStop}
-use Rattle.hare_bindings.proofs.NodeLemmas.{told_node, place_told, meets, stops}
+use Rattle.hare_bindings.proofs.ToldOfNode.Told.{told_node, place_told, meets, stops}
 use Rattle.hare_bindings.proofs.node.judge_node.Goals as goal
 
 pub judge_declaration-requires-clause-told : goal.judge_declaration-requires-clause-told

@@ -3,7 +3,7 @@ use Rattle.hare_tree.specs.Node.{Node, kids_of}
 use Rattle.hare_typed.specs.Erased.{erase}
 use Rattle.hare_modules.proofs.Trees.{kid-there}
 use Rattle.hare_bindings.specs.Own.{void_leaf, type_or_leaf, kids_with}
-use Rattle.hare_bindings.proofs.KidLemmas.{first_written, four_kids, four_same, four_erased, kids_are, erased_are}
+use Rattle.hare_bindings.proofs.ToldOfNode.Kids.{first_written, four_kids, four_same, four_erased, kids_are, erased_are}
 use Rattle.hare_bindings.proofs.own.own_kids.Goals as goal
 
 pub written-requires : goal.written-requires

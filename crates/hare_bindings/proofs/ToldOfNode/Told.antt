@@ -23,7 +23,7 @@ use Rattle.rule_judge.specs.Defined.{AreDefinedTrees}
 use Rattle.rule_judge.specs.Told.{IsToldNode, IsJudgedNode, IsStoppedNode}
 use Rattle.rule_judge.proofs.DefinedLemmas.{trees_stay}
 use Rattle.hare_bindings.specs.Own.{case_of, IsPlaceAmong, MeetsRows, IsRowsStop}
-use Rattle.hare_bindings.proofs.RowLemmas.{first_same, fails_at, absent_value, place_is}
+use Rattle.hare_bindings.proofs.ToldOfNode.Rows.{first_same, fails_at, absent_value, place_is}
 
 -- ---- what is told
 
