@@ -1,5 +1,2 @@
-mod ShapeLemmas
-mod ReadyLemmas
-mod JudgingLemmas
-mod AgreeLemmas
-mod AnswerLemmas
+mod ReadyToJudge
+mod SaidOfValue

@@ -1,4 +1,4 @@
-use Rattle.hare_values.proofs.JudgingLemmas.{can-judge-ok}
+use Rattle.hare_values.proofs.ReadyToJudge.CanJudge.{can-judge-ok}
 use Rattle.hare_values.proofs.judging.can_judge.Goals as goal
 
 pub returns-clause-value : goal.returns-clause-value

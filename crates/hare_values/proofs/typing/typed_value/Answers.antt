@@ -1,5 +1,5 @@
 use Rattle.hare_values.specs.Judging.{listing_of}
-use Rattle.hare_values.proofs.AgreeLemmas.{trees-known, stops-known}
+use Rattle.hare_values.proofs.SaidOfValue.Agreement.{trees-known, stops-known}
 use Rattle.hare_values.proofs.typing.typed_value.Goals as goal
 
 pub returns-clause-ok : goal.returns-clause-ok

@@ -6,9 +6,9 @@ use Rattle.hare_walk.proofs.Grows.{grown-trans}
 use Rattle.hare_walk.proofs.Steps.{err_same}
 use Rattle.hare_check.proofs.Walks.Growing.{grown-later}
 use Rattle.hare_values.specs.Values.{IsValueStop}
-use Rattle.hare_values.proofs.AnswerLemmas.{erased, stop-inside, value-of, stop-itself}
-use Rattle.hare_values.proofs.ReadyLemmas.{taken-later}
-use Rattle.hare_values.proofs.ShapeLemmas.{value-shaped}
+use Rattle.hare_values.proofs.SaidOfValue.Answers.{erased, stop-inside, value-of, stop-itself}
+use Rattle.hare_values.proofs.ReadyToJudge.Ready.{taken-later}
+use Rattle.hare_values.proofs.ReadyToJudge.Shape.{value-shaped}
 use Rattle.hare_values.proofs.value.judge_value.Goals as goal
 
 pub typed_value-requires-clause-shaped : goal.typed_value-requires-clause-shaped

@@ -19,7 +19,7 @@ use Rattle.hare_steps.specs.Plans.{listing}
 use Rattle.hare_turns.specs.Stages.{AreReadable}
 use Rattle.rule_judge.specs.Defined.{IsDefinedHint, IsDefinedName}
 use Rattle.hare_values.specs.Judging.{CanJudge}
-use Rattle.hare_values.proofs.ReadyLemmas.{known-ready, decls-ready}
+use Rattle.hare_values.proofs.ReadyToJudge.Ready.{known-ready, decls-ready}
 
 -- a path of an expression is a path
 path-kind : (k : Kind) → is_path k ≡ true → is_path_kind k ≡ true
