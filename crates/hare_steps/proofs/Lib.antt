@@ -1,5 +1,2 @@
-pub mod EarlyLemmas
-pub mod JudgedLemmas
-pub mod OrderLemmas
-pub mod PlaceLemmas
-pub mod TurnLemmas
+pub mod PlacesListed
+pub mod TurnByTurn

@@ -4,7 +4,7 @@ use Rattle.std.proofs.lemmas.Option.{slice_get-get_or}
 use Rattle.hare_types.specs.Unions.{put_all}
 use Rattle.hare_depends.specs.Sorts.{is_global}
 use Rattle.hare_depends.specs.Dependence.{is_at}
-use Rattle.hare_steps.proofs.EarlyLemmas.{put_all-next, put_all-over}
+use Rattle.hare_steps.proofs.PlacesListed.Early.{put_all-next, put_all-over}
 use Rattle.hare_steps.proofs.early.globals_of.Goals as goal
 use Rattle.hare_steps.proofs.early.globals_of.Goals.{then-is_global_at+in_ok-insert, else-is_global_at}
 

@@ -1,7 +1,7 @@
 use Rattle.std.proofs.Common.{◌∙◌, ap, sym, Some}
 use Rattle.std.specs.Prelude.{option_copied}
 use Rattle.std.proofs.lemmas.Option.{slice_get-get_or}
-use Rattle.hare_steps.proofs.PlaceLemmas.{stands-there, no-file, in-file}
+use Rattle.hare_steps.proofs.PlacesListed.Places.{stands-there, no-file, in-file}
 use Rattle.hare_steps.proofs.listed.declaration_at.Goals as goal
 
 pub returns-in_err-file : goal.returns-in_err-file

@@ -1,5 +1,5 @@
 use Rattle.std.proofs.Common.{sym}
-use Rattle.hare_steps.proofs.PlaceLemmas.{files-next}
+use Rattle.hare_steps.proofs.PlacesListed.Places.{files-next}
 use Rattle.hare_steps.proofs.listed.places.Goals as goal
 
 pub loop-file-preserved : goal.loop-file-preserved

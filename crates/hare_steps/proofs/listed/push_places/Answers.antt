@@ -1,6 +1,6 @@
 use Rattle.std.proofs.Common.{◌<◌, refl, subst, sym}
 use Rattle.hare_depends.proofs.ListLemmas.{there-below}
-use Rattle.hare_steps.proofs.PlaceLemmas.{places-next}
+use Rattle.hare_steps.proofs.PlacesListed.Places.{places-next}
 use Rattle.hare_steps.proofs.listed.push_places.Goals as goal
 
 pub loop-decl-preserved : goal.loop-decl-preserved

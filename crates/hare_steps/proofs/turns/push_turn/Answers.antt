@@ -3,7 +3,7 @@ use Rattle.std.proofs.lemmas.Option.{slice_get-get_or}
 use Rattle.hare_whole.specs.Turns.{Types}
 use Rattle.hare_steps.specs.Plans.{step_of}
 use Rattle.hare_steps.specs.Taken.{with_judged, with_all_judged, early_of, own_types, rest_of, turn_of}
-use Rattle.hare_steps.proofs.TurnLemmas.{turn-joined, said-same}
+use Rattle.hare_steps.proofs.TurnByTurn.Turn.{turn-joined, said-same}
 use Rattle.hare_steps.proofs.turns.push_turn.Goals as goal
 
 pub returns : goal.returns

@@ -1,7 +1,7 @@
 use Rattle.std.proofs.Common.{◌∙◌}
 use Rattle.std.proofs.lemmas.Option.{slice_get-get_or}
-use Rattle.hare_steps.proofs.OrderLemmas.{order_within}
-use Rattle.hare_steps.proofs.TurnLemmas.{goes-next, goes-ends, turn-sized}
+use Rattle.hare_steps.proofs.PlacesListed.Order.{order_within}
+use Rattle.hare_steps.proofs.TurnByTurn.Turn.{goes-next, goes-ends, turn-sized}
 use Rattle.hare_steps.proofs.turns.steps.Goals as goal
 
 pub push_turn-requires : goal.push_turn-requires

@@ -25,7 +25,7 @@ use Rattle.hare_depends.specs.Said.{paths_in, number_in, numbers_at, parts_by, w
 use Rattle.hare_whole.specs.Listing.{Listing, saids, IsDecl}
 use Rattle.hare_whole.specs.Turns.{Step, Types, Done, globals_named, early, value_steps, turn, AreSteps, no_more, next}
 use Rattle.hare_steps.specs.Taken.{is_judged, with_judged, named_by_value, globals_of, early_of, rest_of, turn_of, with_all_judged, Tells, TakesTurn, GoesOn}
-use Rattle.hare_steps.proofs.JudgedLemmas.{tells-none, tells-with, tells-middle, tells-with_all, length-with_all}
+use Rattle.hare_steps.proofs.TurnByTurn.Judged.{tells-none, tells-with, tells-middle, tells-with_all, length-with_all}
 
 -- ---- what a value names
 
