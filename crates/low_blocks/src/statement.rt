@@ -20,7 +20,7 @@ use std::alloc::AllocError;
 
 /// Puts the code of statements at the end, their strings to the globals, and the variables that they declare into scope.
 #[cycle(statement)]
-#[tactic(auto, using(crate::proofs::Kids::kid_deep))]
+#[tactic(auto, using(crate::proofs::LoweredParts::Kids::kid_deep))]
 pub fn lower_statements(
     draft: &mut Draft,
     scope: &mut Scope,

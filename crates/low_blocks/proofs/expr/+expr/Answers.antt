@@ -3,7 +3,7 @@ use Rattle.std.proofs.Common.{ap, ◌∙◌}
 use Rattle.hare_blocks.specs.Shape.{terms_of, factor_of, factors_of}
 use Rattle.low_blocks.specs.Expressions.{terms_steps, factors_steps, term_steps, factor_steps}
 use Rattle.low_blocks.specs.Drafts.{steps_of, steps_behind}
-use Rattle.low_blocks.proofs.Drafts.{terms_done, factors_done}
+use Rattle.low_blocks.proofs.LoweredParts.Drafts.{terms_done, factors_done}
 use Rattle.low_blocks.proofs.expr.+expr.Goals as goal
 
 pub lower_expr-returns : goal.lower_expr-returns

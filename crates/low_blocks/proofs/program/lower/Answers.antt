@@ -1,10 +1,10 @@
 -- What holds of the lowered program holds of the program that is made.
 use Rattle.hare_blocks.specs.Shape.{program_of}
-use Rattle.low_blocks.proofs.WellFormed.{well_formed}
-use Rattle.low_blocks.proofs.Sources.{source_same}
-use Rattle.low_blocks.proofs.Loops.{has_its_loops}
-use Rattle.low_blocks.proofs.Shaped.{has_shape}
-use Rattle.low_blocks.proofs.Sizes.{costs_little}
+use Rattle.low_blocks.proofs.RightCode.WellFormed.{well_formed}
+use Rattle.low_blocks.proofs.RightCode.Sources.{source_same}
+use Rattle.low_blocks.proofs.ShapeAndCosts.Loops.{has_its_loops}
+use Rattle.low_blocks.proofs.ShapeAndCosts.Shaped.{has_shape}
+use Rattle.low_blocks.proofs.ShapeAndCosts.Sizes.{costs_little}
 use Rattle.low_blocks.proofs.program.lower.Goals as goal
 
 pub returns-clause-well_formed : goal.returns-clause-well_formed

@@ -4,7 +4,7 @@ use Rattle.std.proofs.lemmas.Grind.{common_steps}
 use Rattle.std.proofs.lemmas.Result.{on_ok_weaker}
 use Rattle.hare_blocks.specs.Sizes.{list_of_statements}
 use Rattle.hare_blocks.specs.Shape.{condition_of, statement_of}
-use Rattle.low_blocks.proofs.Lowered.{block_lowers, branch_lowers, rest_goes_on}
+use Rattle.low_blocks.proofs.LoweredParts.Lowered.{block_lowers, branch_lowers, rest_goes_on}
 use Rattle.low_blocks.proofs.statement.+statement.Goals as goal
 use Rattle.low_blocks.proofs.statement.+statement.Goals.{lower_statements-in-Some+in_ok-lower_statement, lower_statements-in_default}
 

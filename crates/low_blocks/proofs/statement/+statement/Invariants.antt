@@ -1,7 +1,7 @@
 -- The code so far and that of the statements that are left are all code.
 use Rattle.std.proofs.Common.{drop}
 use Rattle.hare_blocks.specs.Sizes.{list_of_statements}
-use Rattle.low_blocks.proofs.Lowered.{IsRest}
+use Rattle.low_blocks.proofs.LoweredParts.Lowered.{IsRest}
 use Rattle.low_blocks.proofs.statement.+statement.Given as goal
 
 abbrev pub invariant-lower_statements-loop-i : goal.invariant-lower_statements-loop-i

@@ -11,9 +11,9 @@ use Rattle.hare_blocks.specs.Trees.{Statement, Statements, declares, assigns, ch
 use Rattle.hare_blocks.specs.Class.{statements_blocks, IsSource}
 use Rattle.low_blocks.specs.Statements.{statement_texts, statements_texts}
 use Rattle.low_blocks.specs.Programs.{body_of, program_texts, lowered}
-use Rattle.low_blocks.proofs.Start.{texts_size}
+use Rattle.low_blocks.proofs.SameRuns.Start.{texts_size}
 use Rattle.low_blocks.specs.Agreement.{DoesTheSame}
-use Rattle.low_blocks.proofs.Whole.{HasFewTexts, does_the_same}
+use Rattle.low_blocks.proofs.SameRuns.Whole.{HasFewTexts, does_the_same}
 
 -- how many bytes a token takes at least: a string its quotes and its characters
 abbrev token_size : Token → ℕ

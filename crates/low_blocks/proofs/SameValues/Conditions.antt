@@ -11,10 +11,11 @@ use Rattle.flat_code.specs.Evaluation.{Less, function_named}
 use Rattle.hare_blocks.specs.Trees.{Relation, less, less_equal, greater, greater_equal, equal, differ, Condition, always, compares}
 use Rattle.hare_blocks.specs.Evaluation.{Variables, relates, holds}
 use Rattle.low_blocks.specs.Expressions.{Scope, Piece, test_temp, comparison, expr_piece, condition_piece}
-use Rattle.low_blocks.proofs.Runs.{temp_of-same, temp_of-other, Keeps, keeps_on, operand_kept, Reaches, reaches_none, reaches_on, reaches_set}
-use Rattle.low_blocks.proofs.Scopes.{Below}
-use Rattle.low_blocks.proofs.Pieces.{piece_from}
-use Rattle.low_blocks.proofs.Values.{Ready, ready_on, piece_gives}
+use Rattle.low_blocks.proofs.Temporaries.Runs.{temp_of-same, temp_of-other, Keeps, keeps_on, operand_kept, Reaches, reaches_none}
+use Rattle.low_blocks.proofs.Temporaries.Runs.{reaches_on, reaches_set}
+use Rattle.low_blocks.proofs.Temporaries.Scopes.{Below}
+use Rattle.low_blocks.proofs.Temporaries.Pieces.{piece_from}
+use Rattle.low_blocks.proofs.SameValues.Values.{Ready, ready_on, piece_gives}
 
 -- ---- comparisons
 

@@ -17,8 +17,8 @@ use Rattle.hx_runtime.specs.declared.runtime.RuntimeFunction.{RuntimeFunction}
 use Rattle.flat_code.specs.State.{State, cut, value_of, give, stepped, Next, Left, Returned, Exit, Abort, Fault, HeapFull, Spent, Result, then_go, caught, then_turn, spends}
 use Rattle.hare_blocks.specs.Trees.{Program}
 use Rattle.low_blocks.specs.Programs.{body_of, start, body_code, lowered_main, lowered}
-use Rattle.low_blocks.proofs.Fits.{IsOperand, IsFitCall, IsFit, AreFit, statements_fit}
-use Rattle.low_blocks.proofs.Fits as fit
+use Rattle.low_blocks.proofs.ShapeAndCosts.Fits.{IsOperand, IsFitCall, IsFit, AreFit, statements_fit}
+use Rattle.low_blocks.proofs.ShapeAndCosts.Fits as fit
 
 -- ---- ends put together
 

@@ -20,9 +20,10 @@ use Rattle.hare_blocks.specs.Scopes.{number_of}
 use Rattle.low_blocks.specs.declared.last.Last.{Last}
 use Rattle.low_blocks.specs.declared.last.Last.TheVariants.{Operand, Operation, ArgCount}
 use Rattle.low_blocks.specs.Expressions.{Scope, held, last_set, Steps, Piece, settled, operand_of, operated, comparison, expr_steps, terms_steps, term_steps, factors_steps, factor_steps, expr_piece, condition_piece}
-use Rattle.low_blocks.proofs.Scopes.{Below}
-use Rattle.low_blocks.proofs.Pieces.{AreFrom, operand_from, joined_from, after_operand, expr_from, term_from, factor_from, piece_from}
-use Rattle.low_blocks.proofs.Plain.{IsFree, sets_append, and_assoc, and_both}
+use Rattle.low_blocks.proofs.Temporaries.Scopes.{Below}
+use Rattle.low_blocks.proofs.Temporaries.Pieces.{AreFrom, operand_from, joined_from, after_operand, expr_from, term_from, factor_from}
+use Rattle.low_blocks.proofs.Temporaries.Pieces.{piece_from}
+use Rattle.low_blocks.proofs.RightCode.Plain.{IsFree, sets_append, and_assoc, and_both}
 
 pub less_true : (a b : ℕ) → a < b → nat_lt a b ≡ true
 less_true a b l = pick (nat_lt a b) refl

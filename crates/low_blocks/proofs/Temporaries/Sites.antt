@@ -4,8 +4,8 @@ use Rattle.std.proofs.lemmas.List.{length-append}
 use Rattle.hare_blocks.specs.Trees.{Statement, Statements, declares, assigns, chooses, chooses_one, repeats, puts, exits, nothing, first}
 use Rattle.low_blocks.specs.Expressions.{expr_steps, condition_piece}
 use Rattle.low_blocks.specs.Statements.{Site, Lowered, past, outside, statement_code, statements_code, statement_texts, statements_texts}
-use Rattle.low_blocks.proofs.Scopes.{Below, below_more, Extends}
-use Rattle.low_blocks.proofs.Pieces.{expr_from, piece_from, condition_grows}
+use Rattle.low_blocks.proofs.Temporaries.Scopes.{Below, below_more, Extends}
+use Rattle.low_blocks.proofs.Temporaries.Pieces.{expr_from, piece_from, condition_grows}
 
 -- ---- scopes
 

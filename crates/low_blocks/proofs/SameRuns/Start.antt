@@ -14,7 +14,7 @@ use Rattle.flat_code.specs.declared.program.FlatFn.{FlatFn}
 use Rattle.flat_code.specs.declared.program.FlatProgram.{FlatProgram}
 use Rattle.flat_code.specs.Addresses.{item_size, item_bytes, data_size, addresses_from, addresses, address_at, with_global, with_globals, start_memory}
 use Rattle.low_blocks.specs.Programs.{text_items, text_global, text_globals}
-use Rattle.low_blocks.proofs.Texts.{AreTexts}
+use Rattle.low_blocks.proofs.SameRuns.Texts.{AreTexts}
 
 -- ---- strings as globals
 

@@ -15,11 +15,13 @@ use Rattle.hare_blocks.specs.Scopes.{number_of}
 use Rattle.low_blocks.specs.declared.last.Last.{Last}
 use Rattle.low_blocks.specs.Expressions.{Scope, last_set, Piece, expr_steps, expr_piece, condition_piece}
 use Rattle.low_blocks.specs.Statements.{Site, past, outside, variable_set, seq, turn, statement_code, statements_code, statement_texts, statements_texts}
-use Rattle.low_blocks.proofs.Scopes.{place_under}
-use Rattle.low_blocks.proofs.Pieces.{expr_from, condition_grows}
-use Rattle.low_blocks.proofs.Sites.{IsSited, sited_past, sited_outside, statement_behind, statements_behind}
-use Rattle.low_blocks.proofs.Plain.{IsFree, and_both}
-use Rattle.low_blocks.proofs.Rights.{less_true, or_left, or_right, AreRight, right_parts, right_one, IsPart, part_front, part_back, operand_word, AreSet, AreOperands, right_last, last_is_set, expr_right, piece_right, condition_right}
+use Rattle.low_blocks.proofs.Temporaries.Scopes.{place_under}
+use Rattle.low_blocks.proofs.Temporaries.Pieces.{expr_from, condition_grows}
+use Rattle.low_blocks.proofs.Temporaries.Sites.{IsSited, sited_past, sited_outside, statement_behind, statements_behind}
+use Rattle.low_blocks.proofs.RightCode.Plain.{IsFree, and_both}
+use Rattle.low_blocks.proofs.RightCode.Rights.{less_true, or_left, or_right, AreRight, right_parts, right_one, IsPart, part_front}
+use Rattle.low_blocks.proofs.RightCode.Rights.{part_back, operand_word, AreSet, AreOperands, right_last, last_is_set, expr_right}
+use Rattle.low_blocks.proofs.RightCode.Rights.{piece_right, condition_right}
 
 -- strings whose lengths are numbers of 64 bits
 abbrev pub AreShort : List (List ℕ) → Type 0

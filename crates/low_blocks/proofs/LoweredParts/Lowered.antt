@@ -12,10 +12,10 @@ use Rattle.low_blocks.specs.Expressions.{Scope, Piece, condition_piece}
 use Rattle.low_blocks.specs.Statements.{Site, Lowered, past, outside, seq, statement_code, statements_code, statement_texts, statements_texts}
 use Rattle.low_blocks.specs.Programs.{text_global, text_globals}
 use Rattle.low_blocks.specs.Drafts.{piece_of, behind, IsEmptyDraft, Grows, site, Lowers, LowersBlock}
-use Rattle.low_blocks.proofs.Scopes.{Extends}
-use Rattle.low_blocks.proofs.Sites.{statements_extend}
-use Rattle.low_blocks.proofs.Globals.{length-text_globals}
-use Rattle.low_blocks.proofs.Drafts.{drop_item, drop_past}
+use Rattle.low_blocks.proofs.Temporaries.Scopes.{Extends}
+use Rattle.low_blocks.proofs.Temporaries.Sites.{statements_extend}
+use Rattle.low_blocks.proofs.RightCode.Globals.{length-text_globals}
+use Rattle.low_blocks.proofs.LoweredParts.Drafts.{drop_item, drop_past}
 
 -- ---- globals
 

@@ -16,9 +16,10 @@ use Rattle.hare_blocks.specs.Evaluation.{Variables, value, terms_value, term_val
 use Rattle.low_blocks.specs.declared.last.Last.{Last}
 use Rattle.low_blocks.specs.declared.last.Last.TheVariants.{Operand, Operation, ArgCount}
 use Rattle.low_blocks.specs.Expressions.{Scope, last_set, Steps, Piece, settled, operand_of, operated, expr_steps, terms_steps, term_steps, factors_steps, factor_steps, expr_piece}
-use Rattle.low_blocks.proofs.Runs.{temp_of, temp_of-same, temp_of-other, Keeps, keeps_on, IsBelow, operand_kept, Reaches, reaches_none, reaches_on, reaches_one, reaches_set}
-use Rattle.low_blocks.proofs.Scopes.{Below, Holds, holds_kept, held_value, value_fits}
-use Rattle.low_blocks.proofs.Pieces.{AreFrom, operand_from, joined_from, after_operand, expr_from, term_from, factor_from}
+use Rattle.low_blocks.proofs.Temporaries.Runs.{temp_of, temp_of-same, temp_of-other, Keeps, keeps_on, IsBelow, operand_kept, Reaches}
+use Rattle.low_blocks.proofs.Temporaries.Runs.{reaches_none, reaches_on, reaches_one, reaches_set}
+use Rattle.low_blocks.proofs.Temporaries.Scopes.{Below, Holds, holds_kept, held_value, value_fits}
+use Rattle.low_blocks.proofs.Temporaries.Pieces.{AreFrom, operand_from, joined_from, after_operand, expr_from, term_from, factor_from}
 
 cut_word : (v : ℕ) → v % 2 ^ 64 < 2 ^ 64
 cut_word v = omega arith

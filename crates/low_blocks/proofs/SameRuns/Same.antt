@@ -16,16 +16,17 @@ use Rattle.hare_blocks.specs.Evaluation.{assigned, value, holds, Next, State, Re
 use Rattle.hare_blocks.specs.Scopes.{number_of}
 use Rattle.low_blocks.specs.Expressions.{Steps, expr_steps, expr_piece, condition_piece}
 use Rattle.low_blocks.specs.Statements.{Site, past, outside, variable_set, seq, branch, turn, statement_code, statements_code, statement_texts, statements_texts}
-use Rattle.low_blocks.proofs.Runs.{keeps_on, value_of-stepped, runs, Reaches, reaches_on}
-use Rattle.low_blocks.proofs.Scopes.{holds_kept, assigned_nowhere, holds_assigned}
-use Rattle.low_blocks.proofs.Pieces.{expr_from, condition_grows}
-use Rattle.low_blocks.proofs.Values.{word_fits, Leads, Ready, last_sets, expr_leads, piece_gives}
-use Rattle.low_blocks.proofs.Conditions.{condition_tells}
-use Rattle.low_blocks.proofs.Meets.{World_after, Stands, Meets, goes_on, then_meets, turn_meets, closed_meets, then_nothing, runs_parts}
-use Rattle.low_blocks.proofs.Meets as ends
-use Rattle.low_blocks.proofs.Sites.{statements_extend, IsSited, sited_past, sited_outside, statement_behind, statements_behind}
-use Rattle.low_blocks.proofs.Texts.{IsText, AreTexts, texts_front, texts_back, put_text}
-use Rattle.low_blocks.proofs.Branches.{stands_on, either_meets, caught_meets, branch_runs}
+use Rattle.low_blocks.proofs.Temporaries.Runs.{keeps_on, value_of-stepped, runs, Reaches, reaches_on}
+use Rattle.low_blocks.proofs.Temporaries.Scopes.{holds_kept, assigned_nowhere, holds_assigned}
+use Rattle.low_blocks.proofs.Temporaries.Pieces.{expr_from, condition_grows}
+use Rattle.low_blocks.proofs.SameValues.Values.{word_fits, Leads, Ready, last_sets, expr_leads, piece_gives}
+use Rattle.low_blocks.proofs.SameValues.Conditions.{condition_tells}
+use Rattle.low_blocks.proofs.SameRuns.Meets.{World_after, Stands, Meets, goes_on, then_meets, turn_meets, closed_meets, then_nothing}
+use Rattle.low_blocks.proofs.SameRuns.Meets.{runs_parts}
+use Rattle.low_blocks.proofs.SameRuns.Meets as ends
+use Rattle.low_blocks.proofs.Temporaries.Sites.{statements_extend, IsSited, sited_past, sited_outside, statement_behind, statements_behind}
+use Rattle.low_blocks.proofs.SameRuns.Texts.{IsText, AreTexts, texts_front, texts_back, put_text}
+use Rattle.low_blocks.proofs.SameRuns.Branches.{stands_on, either_meets, caught_meets, branch_runs}
 
 exit_cut : (v : ℕ) → (v % 2 ^ 32) % 256 ≡ v % 256
 exit_cut v = omega arith

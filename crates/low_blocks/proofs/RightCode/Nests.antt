@@ -14,7 +14,7 @@ use Rattle.low_blocks.specs.declared.last.Last.{Last}
 use Rattle.low_blocks.specs.declared.last.Last.TheVariants.{Operand, Operation, ArgCount}
 use Rattle.low_blocks.specs.Expressions.{Scope, last_set, Steps, Piece, settled, operand_of, operated, comparison, expr_steps, terms_steps, term_steps, factors_steps, factor_steps, expr_piece, condition_piece}
 use Rattle.low_blocks.specs.Statements.{Site, past, outside, variable_set, seq, branch, turn, statement_code, statements_code}
-use Rattle.low_blocks.proofs.Plain.{and_assoc, and_both}
+use Rattle.low_blocks.proofs.RightCode.Plain.{and_assoc, and_both}
 
 -- statements that each stand within no more than `n`, themselves included
 abbrev pub Nest : ℕ → List Code → Type 0

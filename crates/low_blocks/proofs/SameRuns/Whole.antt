@@ -10,9 +10,9 @@ use Rattle.hare_blocks.specs.Evaluation.{End, State, Result, does, ended, run}
 use Rattle.low_blocks.specs.Expressions.{Scope}
 use Rattle.low_blocks.specs.Programs.{body_of, start, program_texts, lowered}
 use Rattle.low_blocks.specs.Agreement.{flat_end, DoesTheSame}
-use Rattle.low_blocks.proofs.Meets.{World_after, Meets, goes_on, exits, spent}
-use Rattle.low_blocks.proofs.Same.{all_meet}
-use Rattle.low_blocks.proofs.Start.{texts_size, start_texts}
+use Rattle.low_blocks.proofs.SameRuns.Meets.{World_after, Meets, goes_on, exits, spent}
+use Rattle.low_blocks.proofs.SameRuns.Same.{all_meet}
+use Rattle.low_blocks.proofs.SameRuns.Start.{texts_size, start_texts}
 
 -- a program that ends as flat code does
 record EndsAlike (w : World) (r : End × List ℕ) (r' : flat.Result) : Type 0 where

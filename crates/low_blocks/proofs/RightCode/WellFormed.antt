@@ -12,13 +12,14 @@ use Rattle.hare_blocks.specs.Trees.{Program}
 use Rattle.hare_blocks.specs.Class.{statements_blocks, IsSource}
 use Rattle.low_blocks.specs.Statements.{seq}
 use Rattle.low_blocks.specs.Programs.{body_of, start, body_code, program_texts, text_name, lowered_main, lowered}
-use Rattle.low_blocks.proofs.Sites.{IsSited, statements_behind}
-use Rattle.low_blocks.proofs.Plain.{IsFree, and_both, statements_plain}
-use Rattle.low_blocks.proofs.Nests.{statements_nest}
-use Rattle.low_blocks.proofs.RightStatements.{AreShort, statements_right}
-use Rattle.low_blocks.proofs.Start.{texts_size}
-use Rattle.low_blocks.proofs.Sources.{source_texts, source_blocks}
-use Rattle.low_blocks.proofs.Globals.{texts_not_main, one_named, each_text, text_right, length-text_globals, size-text_globals, length_le-texts_size}
+use Rattle.low_blocks.proofs.Temporaries.Sites.{IsSited, statements_behind}
+use Rattle.low_blocks.proofs.RightCode.Plain.{IsFree, and_both, statements_plain}
+use Rattle.low_blocks.proofs.RightCode.Nests.{statements_nest}
+use Rattle.low_blocks.proofs.RightCode.RightStatements.{AreShort, statements_right}
+use Rattle.low_blocks.proofs.SameRuns.Start.{texts_size}
+use Rattle.low_blocks.proofs.RightCode.Sources.{source_texts, source_blocks}
+use Rattle.low_blocks.proofs.RightCode.Globals.{texts_not_main, one_named, each_text, text_right, length-text_globals, size-text_globals}
+use Rattle.low_blocks.proofs.RightCode.Globals.{length_le-texts_size}
 
 le_true : (a b : ℕ) → a ≤ b → nat_le a b ≡ true
 le_true a b l = pick (nat_le a b) refl

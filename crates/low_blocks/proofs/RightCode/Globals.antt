@@ -18,8 +18,8 @@ use Rattle.flat_code.specs.declared.program.FlatProgram.{FlatProgram}
 use Rattle.flat_code.specs.WellFormed.{is_name_byte, is_symbol, is_item, is_global, global_size}
 use Rattle.flat_code.proofs.NumberNames.{decimal_eq}
 use Rattle.low_blocks.specs.Programs.{text_name, text_items, text_global, text_globals}
-use Rattle.low_blocks.proofs.Plain.{and_both}
-use Rattle.low_blocks.proofs.Start.{text_size, texts_size}
+use Rattle.low_blocks.proofs.RightCode.Plain.{and_both}
+use Rattle.low_blocks.proofs.SameRuns.Start.{text_size, texts_size}
 
 -- ---- names
 

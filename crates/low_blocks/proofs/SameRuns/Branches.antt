@@ -11,10 +11,10 @@ use Rattle.flat_code.specs.State.{cut, value_of, stepped, caught}
 use Rattle.flat_code.specs.Evaluation.{Less, flat_begun}
 use Rattle.hare_blocks.specs.Evaluation.{State, Result}
 use Rattle.low_blocks.specs.Expressions.{Scope, Piece}
-use Rattle.low_blocks.proofs.Runs.{Keeps, runs, value_of-stepped}
-use Rattle.low_blocks.proofs.Scopes.{Below, holds_kept}
-use Rattle.low_blocks.proofs.Conditions.{Tells}
-use Rattle.low_blocks.proofs.Meets.{Stands, Meets, goes_on, exits, spent, then_nothing}
+use Rattle.low_blocks.proofs.Temporaries.Runs.{Keeps, runs, value_of-stepped}
+use Rattle.low_blocks.proofs.Temporaries.Scopes.{Below, holds_kept}
+use Rattle.low_blocks.proofs.SameValues.Conditions.{Tells}
+use Rattle.low_blocks.proofs.SameRuns.Meets.{Stands, Meets, goes_on, exits, spent, then_nothing}
 
 -- the state is read no more than so far
 pub stands_on : (w : World) (scope : Scope) (t : ℕ) (v : State) (s s' : flat.State) → Below t scope → Keeps t s s' → s'.world ≡ s.world →

@@ -17,9 +17,10 @@ use Rattle.low_blocks.specs.declared.last.Last.{Last}
 use Rattle.low_blocks.specs.declared.last.Last.TheVariants.{Operand, Operation, ArgCount}
 use Rattle.low_blocks.specs.Expressions.{Scope, last_set, Steps, Piece, settled, operand_of, operated, comparison, expr_steps, terms_steps, term_steps, factors_steps, factor_steps, expr_piece, condition_piece}
 use Rattle.low_blocks.specs.Statements.{Site, past, outside, variable_set, seq, turn, statement_code, statements_code}
-use Rattle.low_blocks.proofs.Scopes.{Below, place_above}
-use Rattle.low_blocks.proofs.Pieces.{AreFrom, joined_from, after_operand, expr_from, term_from, factor_from, piece_from, condition_grows}
-use Rattle.low_blocks.proofs.Sites.{IsSited, sited_past, sited_outside, statement_behind, statements_behind}
+use Rattle.low_blocks.proofs.Temporaries.Scopes.{Below, place_above}
+use Rattle.low_blocks.proofs.Temporaries.Pieces.{AreFrom, joined_from, after_operand, expr_from, term_from, factor_from, piece_from}
+use Rattle.low_blocks.proofs.Temporaries.Pieces.{condition_grows}
+use Rattle.low_blocks.proofs.Temporaries.Sites.{IsSited, sited_past, sited_outside, statement_behind, statements_behind}
 
 -- ---- tests
 

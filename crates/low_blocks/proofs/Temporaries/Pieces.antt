@@ -8,8 +8,8 @@ use Rattle.hare_blocks.specs.Trees.{Expr, Terms, Term, Factors, Factor, sum_of, 
 use Rattle.low_blocks.specs.declared.last.Last.{Last}
 use Rattle.low_blocks.specs.declared.last.Last.TheVariants.{Operand, Operation, ArgCount}
 use Rattle.low_blocks.specs.Expressions.{Scope, Steps, Piece, settled, operand_of, operated, expr_steps, terms_steps, term_steps, factors_steps, factor_steps, expr_piece, condition_piece}
-use Rattle.low_blocks.proofs.Runs.{IsBelow}
-use Rattle.low_blocks.proofs.Scopes.{Below, held_below}
+use Rattle.low_blocks.proofs.Temporaries.Runs.{IsBelow}
+use Rattle.low_blocks.proofs.Temporaries.Scopes.{Below, held_below}
 
 -- a piece whose temporaries are from `t` on, and which gives a number or a temporary in front of its next one
 pub record IsFrom (t : ℕ) (piece : Piece) : Type 0 where

@@ -15,8 +15,8 @@ use Rattle.low_blocks.specs.Expressions.{Scope, Steps, settled, operand_of, oper
 use Rattle.low_blocks.specs.Statements.{Site, past, outside, statement_code, statements_code}
 use Rattle.low_blocks.specs.Programs.{body_of, start, body_code, lowered_main, lowered}
 use Rattle.low_blocks.specs.Shape.{little, CostsLittle}
-use Rattle.low_blocks.proofs.Costs.{none_addressed, run_cost}
-use Rattle.low_blocks.proofs.Fits.{statements_fit}
+use Rattle.low_blocks.proofs.ShapeAndCosts.Costs.{none_addressed, run_cost}
+use Rattle.low_blocks.proofs.ShapeAndCosts.Fits.{statements_fit}
 
 -- ---- temporaries of expressions
 

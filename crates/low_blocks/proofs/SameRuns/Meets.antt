@@ -7,8 +7,8 @@ use Rattle.flat_code.specs.State as flat
 use Rattle.flat_code.specs.Evaluation.{Less}
 use Rattle.hare_blocks.specs.Evaluation.{Exit, Spent, Next, Ends, State, Result, then_go, closed}
 use Rattle.low_blocks.specs.Expressions.{Scope}
-use Rattle.low_blocks.proofs.Runs.{runs}
-use Rattle.low_blocks.proofs.Scopes.{Extends, Holds, holds_outer}
+use Rattle.low_blocks.proofs.Temporaries.Runs.{runs}
+use Rattle.low_blocks.proofs.Temporaries.Scopes.{Extends, Holds, holds_outer}
 
 -- the world of a program that puts out bytes, and changes nothing else
 abbrev pub World_after : World → List ℕ → World

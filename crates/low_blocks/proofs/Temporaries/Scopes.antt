@@ -7,7 +7,7 @@ use Rattle.flat_code.specs.State.{State, value_of}
 use Rattle.hare_blocks.specs.Evaluation.{Variables, variable_value, assigned}
 use Rattle.hare_blocks.specs.Scopes.{number_of}
 use Rattle.low_blocks.specs.Expressions.{Scope, held}
-use Rattle.low_blocks.proofs.Runs.{temp_of, Keeps, IsBelow}
+use Rattle.low_blocks.proofs.Temporaries.Runs.{temp_of, Keeps, IsBelow}
 
 -- ---- where variables are
 

@@ -8,8 +8,8 @@ use Rattle.flat_code.specs.Contents.{calls_in, calls_in_all}
 use Rattle.hare_blocks.specs.Trees.{Program}
 use Rattle.low_blocks.specs.Programs.{text_name, text_globals, body_of, start, body_code, program_texts, lowered_main, lowered}
 use Rattle.low_blocks.specs.Shape.{text_names, HasShape}
-use Rattle.low_blocks.proofs.Fits.{IsFitCall, IsFit, AreFit, statements_fit}
-use Rattle.low_blocks.proofs.Fits as fit
+use Rattle.low_blocks.proofs.ShapeAndCosts.Fits.{IsFitCall, IsFit, AreFit, statements_fit}
+use Rattle.low_blocks.proofs.ShapeAndCosts.Fits as fit
 
 call_is_none : (temp : Option ℕ) (name : List ℕ) (args : List Value) → IsFitCall temp name args →
     calls_in (codes "main") (Call temp name args) ≡ 0
