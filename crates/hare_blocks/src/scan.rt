@@ -68,7 +68,7 @@ pub fn text_len(s: &[u8]) -> usize
 
 /// The number that the decimal digits at the front spell, and what stands behind them. None where no digit stands there, or where the
 /// number is 2^64 or more.
-#[tactic(auto, unfolding(crate::specs::Lexing::number_at), using(crate::proofs::Scanned::digits_in_front))]
+#[tactic(auto, unfolding(crate::specs::Lexing::number_at), using(crate::proofs::FirstTokens::Scanned::digits_in_front))]
 pub fn number_at(s: &[u8]) -> Option<(u64, &[u8])>
     ensures { option_map (λ r. (r.0, r.1.now)) result ≡ number_at s.now }
 {

@@ -2,7 +2,7 @@ use Rattle.std.proofs.Common.{[], sym, ap, ◌∙◌}
 use Rattle.std.proofs.lemmas.Result.{IfOk-weaker}
 use Rattle.hare_blocks.specs.Names.{names_of, statements_hold}
 use Rattle.hare_blocks.specs.Sizes.{list_of_statements}
-use Rattle.hare_blocks.proofs.Told.{tell_statements}
+use Rattle.hare_blocks.proofs.DeclaredNames.Told.{tell_statements}
 use Rattle.hare_blocks.proofs.file.is_block_file.Goals as goal
 
 pub returns : goal.returns

@@ -1,7 +1,7 @@
 use Rattle.std.proofs.Common.{◌≡◌, [], sym, ap, ◌∙◌, subst, refl, arith}
 use Rattle.hare_blocks.specs.Names.{names_of, expr_holds}
 use Rattle.hare_blocks.specs.Class.{AreLimited}
-use Rattle.hare_blocks.proofs.Told.{tell_no_names}
+use Rattle.hare_blocks.proofs.DeclaredNames.Told.{tell_no_names}
 use Rattle.hare_blocks.proofs.file.is_exit_file.Goals as goal
 
 pub returns : goal.returns

@@ -1,5 +1,5 @@
 use Rattle.std.proofs.Common.{sym}
-use Rattle.hare_blocks.proofs.Sources.{no_tokens, no_program, same_program, other_program}
+use Rattle.hare_blocks.proofs.ReadStatements.Sources.{no_tokens, no_program, same_program, other_program}
 use Rattle.hare_blocks.proofs.file.read.Goals as goal
 
 pub returns-in_default-clause-ok : goal.returns-in_default-clause-ok

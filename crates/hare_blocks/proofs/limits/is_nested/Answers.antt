@@ -1,5 +1,5 @@
 use Rattle.std.proofs.Common.{arith}
-use Rattle.hare_blocks.proofs.Nested.{most_open_behind}
+use Rattle.hare_blocks.proofs.ReadExpressions.Nested.{most_open_behind}
 use Rattle.hare_blocks.proofs.limits.is_nested.Goals as goal
 
 pub returns-then-depth-gt64 : goal.returns-then-depth-gt64

@@ -1,6 +1,6 @@
 use Rattle.std.proofs.Common.{refl}
 use Rattle.hare_blocks.specs.Shape.{relation_of}
-use Rattle.hare_blocks.proofs.Conditions.{always_read, no_left, no_relation, no_right, compares_read}
+use Rattle.hare_blocks.proofs.ReadExpressions.Conditions.{always_read, no_left, no_relation, no_right, compares_read}
 use Rattle.hare_blocks.proofs.read_condition.condition.Goals as goal
 
 pub returns-then-takes : goal.returns-then-takes

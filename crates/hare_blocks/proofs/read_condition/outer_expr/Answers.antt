@@ -1,7 +1,7 @@
 use Rattle.std.proofs.Common.{◌≡◌, sym, refl, subst}
 use Rattle.hare_blocks.specs.Trees.{expr_tokens}
 use Rattle.hare_blocks.specs.Class.{AreLimited}
-use Rattle.hare_blocks.proofs.Conditions.{outer_none, outer_unlimited, outer_read, taken}
+use Rattle.hare_blocks.proofs.ReadExpressions.Conditions.{outer_none, outer_unlimited, outer_read, taken}
 use Rattle.hare_blocks.proofs.read_condition.outer_expr.Goals as goal
 
 pub returns-in_default : goal.returns-in_default

@@ -4,7 +4,7 @@ use Rattle.hare_blocks.specs.declared.token.Token.TheVariants as token
 use Rattle.hare_blocks.specs.Trees.{expr_tokens}
 use Rattle.hare_blocks.specs.Grammar.{IsLimited}
 use Rattle.hare_blocks.specs.Parsing.{IsNoTerm}
-use Rattle.hare_blocks.proofs.Conditions.{closes, not_around, none_around, unclosed_around, around_read}
+use Rattle.hare_blocks.proofs.ReadExpressions.Conditions.{closes, not_around, none_around, unclosed_around, around_read}
 use Rattle.hare_blocks.proofs.read_condition.status.Goals as goal
 
 abbrev opening : List Token

@@ -3,7 +3,7 @@ use Rattle.hare_blocks.specs.declared.token.Token.TheVariants as token
 use Rattle.hare_blocks.specs.Trees.{condition_tokens}
 use Rattle.hare_blocks.specs.Shape.{condition_of}
 use Rattle.hare_blocks.specs.Grammar.{ConditionFits}
-use Rattle.hare_blocks.proofs.Conditions.{closes, not_around, none_around, unclosed_around, around_read}
+use Rattle.hare_blocks.proofs.ReadExpressions.Conditions.{closes, not_around, none_around, unclosed_around, around_read}
 use Rattle.hare_blocks.proofs.read_condition.test.Goals as goal
 
 pub returns-then-not-takes : goal.returns-then-not-takes

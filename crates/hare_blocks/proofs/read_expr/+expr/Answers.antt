@@ -1,8 +1,10 @@
 use Rattle.std.proofs.Common.{refl, arith}
 use Rattle.hare_blocks.specs.Shape.{terms_of, factor_of, factors_of}
-use Rattle.hare_blocks.proofs.Expressions.{terms_more, terms_break, terms_end, no_head_term, no_further_terms, expr_read}
-use Rattle.hare_blocks.proofs.Products.{factors_more, factors_break, factors_end, no_head_factor, no_further_factors, term_read}
-use Rattle.hare_blocks.proofs.Factored.{other_factor, factor_of_nothing, number_read, group_too_deep, group_of_nothing, group_open, group_read}
+use Rattle.hare_blocks.proofs.ReadExpressions.Expressions.{terms_more, terms_break, terms_end, no_head_term, no_further_terms, expr_read}
+use Rattle.hare_blocks.proofs.ReadExpressions.Products.{factors_more, factors_break, factors_end, no_head_factor, no_further_factors}
+use Rattle.hare_blocks.proofs.ReadExpressions.Products.{term_read}
+use Rattle.hare_blocks.proofs.ReadExpressions.Factored.{other_factor, factor_of_nothing, number_read, group_too_deep, group_of_nothing}
+use Rattle.hare_blocks.proofs.ReadExpressions.Factored.{group_open, group_read}
 use Rattle.hare_blocks.proofs.read_expr.+expr.Goals as goal
 
 -- ---- expressions

@@ -1,6 +1,6 @@
 use Rattle.std.proofs.Common.{◌+◌, ◌-◌, ◌*◌, length}
-use Rattle.hare_blocks.proofs.Expressions.{TermsSoFar}
-use Rattle.hare_blocks.proofs.Products.{FactorsSoFar}
+use Rattle.hare_blocks.proofs.ReadExpressions.Expressions.{TermsSoFar}
+use Rattle.hare_blocks.proofs.ReadExpressions.Products.{FactorsSoFar}
 use Rattle.hare_blocks.proofs.read_expr.+expr.Given as goal
 
 -- each parenthesis that opens takes 6

@@ -1,5 +1,5 @@
 use Rattle.std.proofs.Common.{◌∙◌, refl, arith}
-use Rattle.hare_blocks.proofs.Factored.{variable_read, path_too_deep, path_of_other, path_to_other, arg_count_read}
+use Rattle.hare_blocks.proofs.ReadExpressions.Factored.{variable_read, path_too_deep, path_of_other, path_to_other, arg_count_read}
 use Rattle.hare_blocks.proofs.read_expr.named.Goals as goal
 
 pub returns-then-not-takes : goal.returns-then-not-takes

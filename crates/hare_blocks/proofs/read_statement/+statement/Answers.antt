@@ -1,8 +1,9 @@
 use Rattle.std.proofs.Common.{refl}
 use Rattle.hare_blocks.specs.Sizes.{list_of_statements}
 use Rattle.hare_blocks.specs.Shape.{condition_of, statement_of}
-use Rattle.hare_blocks.proofs.Blocks.{if_no_test, if_no_body, if_read, if_no_other, if_else_read, for_no_test, for_no_body, for_read, other_statement}
-use Rattle.hare_blocks.proofs.Sequences.{statements_more, statements_break, statements_unended, statements_end}
+use Rattle.hare_blocks.proofs.ReadStatements.Blocks.{if_no_test, if_no_body, if_read, if_no_other, if_else_read, for_no_test, for_no_body}
+use Rattle.hare_blocks.proofs.ReadStatements.Blocks.{for_read, other_statement}
+use Rattle.hare_blocks.proofs.ReadStatements.Sequences.{statements_more, statements_break, statements_unended, statements_end}
 use Rattle.hare_blocks.proofs.read_statement.+statement.Goals as goal
 
 -- ---- branches

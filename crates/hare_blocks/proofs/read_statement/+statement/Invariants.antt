@@ -1,5 +1,5 @@
 use Rattle.std.proofs.Common.{◌+◌, ◌*◌, length}
-use Rattle.hare_blocks.proofs.Sequences.{StatementsSoFar}
+use Rattle.hare_blocks.proofs.ReadStatements.Sequences.{StatementsSoFar}
 use Rattle.hare_blocks.proofs.read_statement.+statement.Given as goal
 
 -- each block that opens takes 4

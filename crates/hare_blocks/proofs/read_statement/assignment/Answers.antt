@@ -1,5 +1,5 @@
 use Rattle.std.proofs.Common.{◌∙◌}
-use Rattle.hare_blocks.proofs.Simple.{assign_no_value, assign_read}
+use Rattle.hare_blocks.proofs.ReadStatements.Simple.{assign_no_value, assign_read}
 use Rattle.hare_blocks.proofs.read_statement.assignment.Goals as goal
 
 pub returns-in_default : goal.returns-in_default

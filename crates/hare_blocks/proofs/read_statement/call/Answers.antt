@@ -1,5 +1,6 @@
 use Rattle.std.proofs.Common.{◌∙◌, sym, refl}
-use Rattle.hare_blocks.proofs.Simple.{exit_no_status, exit_read, call_of_other, puts_unopened, puts_no_text, puts_unclosed, puts_read}
+use Rattle.hare_blocks.proofs.ReadStatements.Simple.{exit_no_status, exit_read, call_of_other, puts_unopened, puts_no_text, puts_unclosed}
+use Rattle.hare_blocks.proofs.ReadStatements.Simple.{puts_read}
 use Rattle.hare_blocks.proofs.read_statement.call.Goals as goal
 
 pub returns-in_default : goal.returns-in_default

@@ -1,5 +1,5 @@
 use Rattle.std.proofs.Common.{◌∙◌, refl}
-use Rattle.hare_blocks.proofs.Simple.{let_no_name, let_no_assign, let_no_value, let_read}
+use Rattle.hare_blocks.proofs.ReadStatements.Simple.{let_no_name, let_no_assign, let_no_value, let_read}
 use Rattle.hare_blocks.proofs.read_statement.declaration.Goals as goal
 
 pub returns-in_default : goal.returns-in_default

@@ -1,5 +1,5 @@
 use Rattle.std.proofs.Common.{refl}
-use Rattle.hare_blocks.proofs.Simple.{name_alone, name_of_other}
+use Rattle.hare_blocks.proofs.ReadStatements.Simple.{name_alone, name_of_other}
 use Rattle.hare_blocks.proofs.read_statement.named.Goals as goal
 
 pub returns-then-not-takes : goal.returns-then-not-takes

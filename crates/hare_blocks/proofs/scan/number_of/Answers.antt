@@ -1,7 +1,7 @@
 use Rattle.std.proofs.Common.{◌∙◌}
 use Rattle.std.proofs.lemmas.Str.Parse.{parse_digits}
 use Rattle.std.proofs.lemmas.Str.{IsUtf8-from_ascii}
-use Rattle.hare_blocks.proofs.Scanned.{own, number_is, IsAscii-digits}
+use Rattle.hare_blocks.proofs.FirstTokens.Scanned.{own, number_is, IsAscii-digits}
 use Rattle.hare_blocks.proofs.scan.number_of.Goals as goal
 
 pub returns-in-Ok : goal.returns-in-Ok

@@ -4,7 +4,8 @@ use Rattle.hare_blocks.specs.declared.token.Token.{Token}
 use Rattle.hare_blocks.specs.Tokens.{Spells}
 use Rattle.hare_blocks.specs.Lexing.{unblanked, token_at}
 use Rattle.hare_blocks.specs.Found.{found_token}
-use Rattle.hare_blocks.proofs.Spelled.{spells_end, spells_blanks, spells_none, spells_more, spells_first, spells_shorter, all_pushed}
+use Rattle.hare_blocks.proofs.FirstTokens.Spelled.{spells_end, spells_blanks, spells_none, spells_more, spells_first, spells_shorter}
+use Rattle.hare_blocks.proofs.FirstTokens.Spelled.{all_pushed}
 use Rattle.hare_blocks.proofs.tokens.tokens.Goals as goal
 
 pub returns-then-is_empty-clause-sound : goal.returns-then-is_empty-clause-sound

@@ -1,7 +1,7 @@
 use Rattle.std.proofs.Common.{◌≡◌, ◌∙◌, sym}
 use Rattle.hare_blocks.specs.Scopes.{number_of}
 use Rattle.hare_blocks.specs.ScopeParts.{bindings_of}
-use Rattle.hare_blocks.proofs.Scoped.{scope_declared}
+use Rattle.hare_blocks.proofs.DeclaredNames.Scoped.{scope_declared}
 use Rattle.hare_blocks.proofs.scope.Scope.declare.Goals as goal
 
 pub invariant_of-self-in-Ok : goal.invariant_of-self-in-Ok

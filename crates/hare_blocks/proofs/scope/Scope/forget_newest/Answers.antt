@@ -1,5 +1,5 @@
 use Rattle.std.proofs.Common.{refl}
-use Rattle.hare_blocks.proofs.Scoped.{scope_forgotten, scope_has}
+use Rattle.hare_blocks.proofs.DeclaredNames.Scoped.{scope_forgotten, scope_has}
 use Rattle.hare_blocks.proofs.scope.Scope.forget_newest.Goals as goal
 
 pub invariant_of-self : goal.invariant_of-self

@@ -11,7 +11,7 @@ use Rattle.std.proofs.lemmas.Slice.Eq.{bytes_eq-Decides}
 use Rattle.std.proofs.lemmas.Grind.{common_steps}
 use Rattle.std.proofs.lemmas.Bool.Decides.{nat_tests, Decides-eqb}
 use Rattle.hare_tree.specs.Words.{is_letter, is_word_byte, is_word, is_listed, keywords, is_left_out}
-use Rattle.hare_blocks.proofs.Scanned.{and_left, and_right, run_len, digits_in_front, number_at-append, number_of_is}
+use Rattle.hare_blocks.proofs.FirstTokens.Scanned.{and_left, and_right, run_len, digits_in_front, number_at-append, number_of_is}
 use Rattle.hare_blocks.specs.declared.token.Token.{Token}
 use Rattle.hare_blocks.specs.declared.token.Token.TheVariants.{Use, Export, Function, Void, U8, Let, If, Else, For, True, Semicolon, OpenParen, CloseParen, OpenBrace, CloseBrace, Assign, Colon, PathSeparator, Plus, Minus, Star, Less, LessEqual, Greater, GreaterEqual, Equal, Differ, Number, Name, Text}
 use Rattle.hare_blocks.specs.Tokens.{IsSpelling, IsLongest, goes_on, is_name, is_plain}

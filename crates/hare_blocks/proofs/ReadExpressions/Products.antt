@@ -8,7 +8,7 @@ use Rattle.hare_blocks.specs.Trees.{Term, Factors, Factor, product_of, no_factor
 use Rattle.hare_blocks.specs.Nesting.{factor_depth, factors_depth}
 use Rattle.hare_blocks.specs.Shape.{factor_of, factors_of}
 use Rattle.hare_blocks.specs.Parsing.{IsNoPath, IsNoFactor, Reads, IsRead, TermNests, FactorsNest, FactorNests}
-use Rattle.hare_blocks.proofs.Expressions.{no_path_behind, ReadsTerm, ReadsFactors, ReadsFactor}
+use Rattle.hare_blocks.proofs.ReadExpressions.Expressions.{no_path_behind, ReadsTerm, ReadsFactors, ReadsFactor}
 
 -- ---- further factors
 

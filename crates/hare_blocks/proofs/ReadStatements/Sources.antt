@@ -10,7 +10,7 @@ use Rattle.hare_blocks.specs.Nesting.{expr_depth}
 use Rattle.hare_blocks.specs.Shape.{program_of}
 use Rattle.hare_blocks.specs.Grammar.{ProgramFits, IsFileOf}
 use Rattle.std.proofs.lemmas.List.Sums.{sum_by-append}
-use Rattle.hare_blocks.proofs.Nested.{open_expr}
+use Rattle.hare_blocks.proofs.ReadExpressions.Nested.{open_expr}
 
 -- what stands in front of the value of an exit alone, and behind it
 abbrev front : List Token

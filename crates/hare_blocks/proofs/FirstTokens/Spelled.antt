@@ -13,8 +13,8 @@ use Rattle.hare_blocks.specs.declared.token.Token.TheVariants.{Use, Export, Func
 use Rattle.hare_tree.specs.Words.{is_blank, is_letter, is_word_byte, is_word, is_listed, keywords, is_left_out}
 use Rattle.hare_blocks.specs.Tokens.{IsSpelling, Spells, AllBlank, is_name}
 use Rattle.hare_blocks.specs.Lexing.{token_at, unblanked}
-use Rattle.hare_blocks.proofs.Scanned.{and_left, run_len}
-use Rattle.hare_blocks.proofs.Lexed.{token_found, token_only}
+use Rattle.hare_blocks.proofs.FirstTokens.Scanned.{and_left, run_len}
+use Rattle.hare_blocks.proofs.FirstTokens.Lexed.{token_found, token_only}
 
 -- a list of no elements
 nothing : (s : List ℕ) → length s ≡ 0 → s ≡ []

@@ -7,8 +7,8 @@ use Rattle.hare_blocks.specs.Class.{statement_exprs, statements_exprs, statement
 use Rattle.hare_blocks.specs.Sizes.{list_of_statements}
 use Rattle.hare_blocks.specs.Parsing.{Reads, IsRead}
 use Rattle.hare_blocks.specs.Grammar.{StatementsFit, Anything, closed_tokens}
-use Rattle.hare_blocks.proofs.Simple.{ReadsStatement, IsStatementRead}
-use Rattle.hare_blocks.proofs.Blocks.{all_left, all_right, all_both, IsBlockRead}
+use Rattle.hare_blocks.proofs.ReadStatements.Simple.{ReadsStatement, IsStatementRead}
+use Rattle.hare_blocks.proofs.ReadStatements.Blocks.{all_left, all_right, all_both, IsBlockRead}
 
 -- statements that were read, and those that are still to read
 abbrev pub joined_statements : List Statement → Statements → Statements

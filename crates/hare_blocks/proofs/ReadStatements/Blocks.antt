@@ -6,7 +6,7 @@ use Rattle.hare_blocks.specs.Trees.{Expr, Condition, Statement, Statements, decl
 use Rattle.hare_blocks.specs.Class.{condition_exprs, statements_exprs, statements_blocks}
 use Rattle.hare_blocks.specs.Parsing.{Reads, IsRead}
 use Rattle.hare_blocks.specs.Grammar.{AllLimited, ConditionFits, BlockFits, Anything, IsEnded, test_tokens, block_tokens}
-use Rattle.hare_blocks.proofs.Simple.{ReadsStatement, IsStatementRead}
+use Rattle.hare_blocks.proofs.ReadStatements.Simple.{ReadsStatement, IsStatementRead}
 
 -- ---- expressions of parts
 

@@ -8,7 +8,7 @@ use Rattle.hare_blocks.specs.Trees.{Expr, Relation, less, less_equal, greater, g
 use Rattle.hare_blocks.specs.Class.{AreLimited}
 use Rattle.hare_blocks.specs.Parsing.{IsNoTerm, Reads, IsRead, ExprNests}
 use Rattle.hare_blocks.specs.Grammar.{IsLimited, ConditionFits, Anything}
-use Rattle.hare_blocks.proofs.Nested.{depth_of_limited}
+use Rattle.hare_blocks.proofs.ReadExpressions.Nested.{depth_of_limited}
 
 -- ---- outermost expressions
 
