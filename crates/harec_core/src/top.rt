@@ -44,7 +44,7 @@ use std::alloc::Global;
 ///
 /// `fill` is the byte that new memory and unassigned temporaries of a run hold. `text` becomes the IL text that was made: it is empty where
 /// no module was made, and after want of memory it is the text or empty. Of `exec` it becomes the content of the file, where that was read.
-#[tactic(auto, using(crate::proofs::Causes::files_asked, crate::proofs::Causes::arguments_asked))]
+#[tactic(auto, using(crate::proofs::CausesOfAnswers::Causes::files_asked, crate::proofs::CausesOfAnswers::Causes::arguments_asked))]
 pub fn harec<F: Files, I: Source, O: Sink, L: Sink>(
     alloc: Global,
     words: &[Text],

@@ -2,8 +2,9 @@ use Rattle.std.proofs.Common.{ap, refl, subst, sym}
 use Rattle.std.proofs.lemmas.Result.{err_from_is_err_and}
 use Rattle.harec_core.specs.Asked.{Compiles}
 use Rattle.harec_core.specs.Stages.{IsTextOf, command_on}
-use Rattle.harec_core.proofs.Causes.{compiled_memory_found, compiled_on, emit_found, passed_found, ran_found, silent, sound_on, unbuilt_found}
-use Rattle.harec_core.proofs.Leaves.{ran_unread, run_leaves}
+use Rattle.harec_core.proofs.CausesOfAnswers.Causes.{compiled_memory_found, compiled_on, emit_found, passed_found, ran_found, silent}
+use Rattle.harec_core.proofs.CausesOfAnswers.Causes.{sound_on, unbuilt_found}
+use Rattle.harec_core.proofs.EndsOfRuns.Leaves.{ran_unread, run_leaves}
 use Rattle.harec_core.proofs.carry.carry_out.Goals as goal
 
 pub run_text-requires-clause-few : goal.run_text-requires-clause-few

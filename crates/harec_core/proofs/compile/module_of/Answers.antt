@@ -1,5 +1,5 @@
 use Rattle.std.proofs.Common.{sym}
-use Rattle.harec_core.proofs.Compiled.{module_of_file}
+use Rattle.harec_core.proofs.MadeModule.Compiled.{module_of_file}
 use Rattle.harec_core.proofs.compile.module_of.Goals as goal
 
 pub returns : goal.returns

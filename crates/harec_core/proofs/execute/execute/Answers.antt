@@ -2,9 +2,10 @@ use Rattle.std.proofs.Common.{List, ℕ, [], ◌∷◌, refl, sym, subst}
 use Rattle.std.proofs.lemmas.Result.{err_from_is_err_and}
 use Rattle.harec_check.specs.declared.stopped.Stopped.TheVariants.{Unread, Memory}
 use Rattle.harec_core.specs.Stages.{IsTextRefusal}
-use Rattle.harec_core.proofs.Causes.{read_stop_found, silent}
-use Rattle.harec_core.proofs.Executing.{sole_path, told_one, unread_one, text_refused_found, text_memory_found, text_ran_found}
-use Rattle.harec_core.proofs.Leaves.{exec_leaves, ran_unread}
+use Rattle.harec_core.proofs.CausesOfAnswers.Causes.{read_stop_found, silent}
+use Rattle.harec_core.proofs.CausesOfAnswers.Executing.{sole_path, told_one, unread_one, text_refused_found, text_memory_found}
+use Rattle.harec_core.proofs.CausesOfAnswers.Executing.{text_ran_found}
+use Rattle.harec_core.proofs.EndsOfRuns.Leaves.{exec_leaves, ran_unread}
 use Rattle.harec_core.proofs.execute.execute.Goals as goal
 
 pub returns-in-Err-Failed-clause-cause : goal.returns-in-Err-Failed-clause-cause

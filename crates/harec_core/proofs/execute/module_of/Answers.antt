@@ -1,4 +1,4 @@
-use Rattle.harec_core.proofs.Executing.{text_refusal}
+use Rattle.harec_core.proofs.CausesOfAnswers.Executing.{text_refusal}
 use Rattle.harec_core.proofs.execute.module_of.Goals as goal
 
 pub returns-in_ok-line-in-Err-Fault-clause-err : goal.returns-in_ok-line-in-Err-Fault-clause-err

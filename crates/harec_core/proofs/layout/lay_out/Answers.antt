@@ -1,8 +1,8 @@
 use Rattle.std.proofs.Common.{◌∙◌}
 use Rattle.std.proofs.lemmas.Result.{err_from_is_err_and}
 use Rattle.harec_check.proofs.FileLemmas.{length-AreTold}
-use Rattle.harec_core.proofs.Causes.{read_stop_found, silent}
-use Rattle.harec_core.proofs.LayoutLemmas.{laid_out_found, layout_stop_found}
+use Rattle.harec_core.proofs.CausesOfAnswers.Causes.{read_stop_found, silent}
+use Rattle.harec_core.proofs.CausesOfAnswers.Layouts.{laid_out_found, layout_stop_found}
 use Rattle.harec_core.proofs.layout.lay_out.Goals as goal
 
 pub returns-in_err-srcs-clause-cause : goal.returns-in_err-srcs-clause-cause

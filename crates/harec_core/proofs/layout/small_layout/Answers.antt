@@ -1,4 +1,4 @@
-use Rattle.harec_core.proofs.LayoutLemmas.{HasLayout-given, HasNoLayout-given, refused_layout}
+use Rattle.harec_core.proofs.CausesOfAnswers.Layouts.{HasLayout-given, HasNoLayout-given, refused_layout}
 use Rattle.harec_core.proofs.layout.small_layout.Goals as goal
 
 pub returns-in-Ok-clause-ok : goal.returns-in-Ok-clause-ok

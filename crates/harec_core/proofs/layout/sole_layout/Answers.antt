@@ -1,5 +1,5 @@
 use Rattle.std.proofs.Common.{sym}
-use Rattle.harec_core.proofs.LayoutLemmas.{sole_source, sole_ok, sole_err}
+use Rattle.harec_core.proofs.CausesOfAnswers.Layouts.{sole_source, sole_ok, sole_err}
 use Rattle.harec_core.proofs.layout.sole_layout.Goals as goal
 
 pub returns-clause-ok : goal.returns-clause-ok

@@ -1,6 +1,6 @@
 use Rattle.std.proofs.Common.{[], refl}
 use Rattle.harec_core.specs.Log.{told}
-use Rattle.harec_core.proofs.Causes.{silent}
+use Rattle.harec_core.proofs.CausesOfAnswers.Causes.{silent}
 use Rattle.harec_core.proofs.log.tell_done.Goals as goal
 
 pub returns-in-Accepted-clause-line : goal.returns-in-Accepted-clause-line

@@ -1,4 +1,4 @@
-use Rattle.harec_core.proofs.SentLemmas.{Writes-err, cut_behind, cut_in_front, sent_both}
+use Rattle.harec_core.proofs.EndsOfRuns.Sent.{Writes-err, cut_behind, cut_in_front, sent_both}
 use Rattle.harec_core.proofs.log.write_undefined.Goals as goal
 
 pub returns-in_err-write : goal.returns-in_err-write

@@ -1,4 +1,4 @@
-use Rattle.harec_core.proofs.Unread.{start_input}
+use Rattle.harec_core.proofs.EndsOfRuns.Unread.{start_input}
 use Rattle.harec_core.proofs.run.run_module.Goals as goal
 
 pub new-requires : goal.new-requires

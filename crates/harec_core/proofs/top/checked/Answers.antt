@@ -2,7 +2,7 @@ use Rattle.std.proofs.Common.{refl}
 use Rattle.std.proofs.lemmas.Result.{err_from_is_err_and}
 use Rattle.harec_check.proofs.FileLemmas.{length-AreTold}
 use Rattle.harec_core.specs.Outside.{Count}
-use Rattle.harec_core.proofs.Causes.{Checks-command_on, files_of-command_on, silent, stop_found}
+use Rattle.harec_core.proofs.CausesOfAnswers.Causes.{Checks-command_on, files_of-command_on, silent, stop_found}
 use Rattle.harec_core.proofs.top.checked.Goals as goal
 
 pub returns-in_err-srcs-clause-cause : goal.returns-in_err-srcs-clause-cause

@@ -1,8 +1,9 @@
 use Rattle.std.proofs.Common.{◌≢◌, refl}
 use Rattle.harec_core.specs.declared.answer.Answer.TheVariants.{Usage, FileFault, ReadFault, WriteFault}
-use Rattle.harec_core.proofs.Answering.{HasRoom, answered_is, found_answers, found_file_fault, found_read_fault, found_usage, write_fault_where}
-use Rattle.harec_core.proofs.Causes.{files_of-command_for}
-use Rattle.harec_core.proofs.Leaves.{input_part}
+use Rattle.harec_core.proofs.CausesOfAnswers.Answering.{HasRoom, answered_is, found_answers, found_file_fault, found_read_fault}
+use Rattle.harec_core.proofs.CausesOfAnswers.Answering.{found_usage, write_fault_where}
+use Rattle.harec_core.proofs.CausesOfAnswers.Causes.{files_of-command_for}
+use Rattle.harec_core.proofs.EndsOfRuns.Leaves.{input_part}
 use Rattle.harec_core.proofs.top.harec.Goals as goal
 
 usage_differs : Usage ≢ WriteFault

@@ -16,7 +16,7 @@ use Rattle.harec_core.specs.Log.{text_letter}
 use Rattle.harec_core.specs.Outside.{Count, Stands, Received, Sent, IsSent}
 use Rattle.harec_core.specs.Stages.{IsTextRefusal, IsRunOf, IsFound}
 use Rattle.harec_core.specs.Texts.{IsPrinted, IsTextFault}
-use Rattle.harec_core.proofs.Running.{run_found}
+use Rattle.harec_core.proofs.EndsOfRuns.Running.{run_found}
 
 -- the first of one path
 pub sole_path : (paths : List (List ℕ)) (path : List ℕ) → length paths ≡ 1 → path ≡ get_or paths 0 path → paths ≡ path ∷ []

@@ -30,7 +30,7 @@ use Rattle.harec_core.specs.Outside.{HasRisen, Stands, Sent}
 use Rattle.harec_core.specs.Stages.{IsFound, found_answer}
 use Rattle.harec_core.specs.Texts.{IsPrinted, IsTextFault}
 use Rattle.harec_core.specs.Texts as texts
-use Rattle.harec_core.proofs.Causes.{apart, risen}
+use Rattle.harec_core.proofs.CausesOfAnswers.Causes.{apart, risen}
 
 -- ---- the rows of the table of causes
 

@@ -18,7 +18,7 @@ use Rattle.harec_core.specs.Answers.{Call, IsJobOf, EndedIn}
 use Rattle.harec_core.specs.Jobs.{Job, begun, result_on, ReadsNothing, outside_before, outside_now, EndsOn, LeadsTo, Answered}
 use Rattle.harec_core.specs.Outside.{Received, Sent}
 use Rattle.harec_core.specs.Stages.{IsFound}
-use Rattle.harec_core.proofs.Unread.{none_in_front, start_input, start_output, start_used, resumed_start, led_to}
+use Rattle.harec_core.proofs.EndsOfRuns.Unread.{none_in_front, start_input, start_output, start_used, resumed_start, led_to}
 
 -- ---- ends
 

@@ -23,7 +23,7 @@ use Rattle.harec_core.specs.Asked.{files_of, Checks, Compiles}
 use Rattle.harec_core.specs.Jobs.{Job}
 use Rattle.harec_core.specs.Outside.{Count, HasRisen, Stands, Received, Sent, sent, IsSent}
 use Rattle.harec_core.specs.Stages.{AreFilesFor, ArgumentsFor, IsTextOf, IsBuilt, IsBuildStop, Emits, IsRunOf, IsFound, command_on, command_for}
-use Rattle.harec_core.proofs.Running.{run_found}
+use Rattle.harec_core.proofs.EndsOfRuns.Running.{run_found}
 
 -- ---- counts and bytes
 

@@ -14,8 +14,8 @@ use Rattle.il_emit.specs.Reaches.{Reaches, Arrives, end_for}
 use Rattle.low_blocks.specs.Agreement.{DoesTheSame, flat_end}
 use Rattle.low_blocks.specs.Shape.{CostsLittle}
 use Rattle.harec_core.specs.Jobs.{ReadsNothing}
-use Rattle.harec_core.proofs.Backward.{later_same, none_begun}
-use Rattle.harec_core.proofs.Unread.{none_in_front, start_input, start_other}
+use Rattle.harec_core.proofs.MadeModule.Backward.{later_same, none_begun}
+use Rattle.harec_core.proofs.EndsOfRuns.Unread.{none_in_front, start_input, start_other}
 
 -- an input with a byte
 abbrev byte : List ℕ

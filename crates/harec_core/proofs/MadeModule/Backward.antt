@@ -19,7 +19,7 @@ use Rattle.low_blocks.specs.Agreement.{DoesTheSame, flat_end}
 use Rattle.low_blocks.specs.Shape.{CostsLittle}
 use Rattle.harec_core.specs.Carries.{Backs, Back}
 use Rattle.harec_core.specs.Class.{evaluation_of, outcome_of}
-use Rattle.harec_core.proofs.Forward.{ended_in}
+use Rattle.harec_core.proofs.MadeModule.Forward.{ended_in}
 
 -- the end of a run that goes on
 goes_on : (r : Run) → r.ended ≡ None → end_of r ≡ machine.Spent

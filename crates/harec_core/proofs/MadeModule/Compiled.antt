@@ -12,10 +12,10 @@ use Rattle.low_blocks.specs.Agreement.{DoesTheSame}
 use Rattle.low_blocks.specs.Shape.{HasItsLoops, CostsLittle}
 use Rattle.low_blocks.specs.Shape as low
 use Rattle.harec_core.specs.Stages.{IsModuleOf}
-use Rattle.harec_core.proofs.Backward.{does_back}
-use Rattle.harec_core.proofs.Forward.{does_forward}
-use Rattle.harec_core.proofs.ReadsNothing.{reads_nothing}
-use Rattle.harec_core.proofs.Shaped.{outline_shape}
+use Rattle.harec_core.proofs.MadeModule.Backward.{does_back}
+use Rattle.harec_core.proofs.MadeModule.Forward.{does_forward}
+use Rattle.harec_core.proofs.MadeModule.ReadsNothing.{reads_nothing}
+use Rattle.harec_core.proofs.MadeModule.Shaped.{outline_shape}
 
 -- what is known of the flat code of a program
 pub record IsLowered (p : Program) (f : FlatProgram) : Type 0 where
