@@ -1,12 +1,3 @@
-pub mod CommandLemmas
-pub mod DigitLemmas
-mod ExecRows
-mod FaultRows
-mod FileRows
-mod FmtRows
-mod LimitRows
-pub mod ListLemmas
-pub mod MeantLemmas
-pub mod PathLemmas
-mod RunRows
-pub mod Worked
+pub mod PartsOfWords
+pub mod ReadCommands
+pub mod WorkedRows

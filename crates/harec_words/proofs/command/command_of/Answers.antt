@@ -1,4 +1,4 @@
-use Rattle.harec_words.proofs.MeantLemmas.{found_is, found_only, none_is}
+use Rattle.harec_words.proofs.ReadCommands.Meant.{found_is, found_only, none_is}
 use Rattle.harec_words.proofs.command.command_of.Goals as goal
 
 pub returns-clause-found : goal.returns-clause-found

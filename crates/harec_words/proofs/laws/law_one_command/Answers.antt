@@ -1,4 +1,4 @@
-use Rattle.harec_words.proofs.CommandLemmas.{one_command}
+use Rattle.harec_words.proofs.ReadCommands.Commands.{one_command}
 use Rattle.harec_words.proofs.laws.law_one_command.Goals as goal
 
 pub returns : goal.returns

@@ -1,5 +1,5 @@
 use Rattle.std.proofs.Common.{sym, ◌∙◌}
-use Rattle.harec_words.proofs.PathLemmas.{is_path-none, directory_less, directory_more}
+use Rattle.harec_words.proofs.PartsOfWords.Paths.{is_path-none, directory_less, directory_more}
 use Rattle.harec_words.proofs.path.is_path.Goals as goal
 
 pub returns-then-not-is_name : goal.returns-then-not-is_name

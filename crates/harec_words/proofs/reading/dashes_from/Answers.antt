@@ -1,5 +1,5 @@
 use Rattle.harec_words.specs.Reading.{is_dashes}
-use Rattle.harec_words.proofs.ListLemmas.{position_or_len-none}
+use Rattle.harec_words.proofs.PartsOfWords.Lists.{position_or_len-none}
 use Rattle.harec_words.proofs.reading.dashes_from.Goals as goal
 
 pub returns-in-None-clause-value : goal.returns-in-None-clause-value

@@ -2,7 +2,7 @@ use Rattle.std.proofs.Common.{◌≡◌, true, sym, ◌∙◌}
 use Rattle.std.specs.Str.{all_ascii_digits}
 use Rattle.std.proofs.lemmas.Str.Parse.{parse_digits}
 use Rattle.std.proofs.lemmas.Str.{IsUtf8-from_ascii}
-use Rattle.harec_words.proofs.DigitLemmas.{own, IsAscii-digits, some_of_ok, list_all-digits}
+use Rattle.harec_words.proofs.PartsOfWords.Digits.{own, IsAscii-digits, some_of_ok, list_all-digits}
 use Rattle.harec_words.proofs.units.number_of.Goals as goal
 
 pub returns-in-Ok : goal.returns-in-Ok

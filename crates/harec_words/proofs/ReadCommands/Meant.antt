@@ -5,7 +5,7 @@ use Rattle.harec_words.specs.Commands.{IsCommand, IsNoCommand}
 use Rattle.harec_words.specs.Commands as spec
 use Rattle.harec_words.specs.Reading.{command_in}
 use Rattle.harec_words.specs.Spans.{meant}
-use Rattle.harec_words.proofs.CommandLemmas.{reads, tells}
+use Rattle.harec_words.proofs.ReadCommands.Commands.{reads, tells}
 use Rattle.std.proofs.lemmas.Option.{same_Some}
 
 pub found_is : (words : List (List ℕ)) (r : Option Command) → option_map (meant words) r ≡ command_in words →

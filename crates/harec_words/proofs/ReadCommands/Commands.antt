@@ -14,8 +14,8 @@ use Rattle.std.proofs.lemmas.List.Sums.{split_at_first, passes_at_first}
 use Rattle.std.proofs.lemmas.Option.{same_Some}
 use Rattle.harec_words.specs.Commands.{IsFile, AreFiles, IsOneFile, IsProgram, IsUnits, default_units, Limits, Brings, AreArguments, Runs, Command, Check, Emit, Run, Exec, Fmt, IsCommand, MeanOneCommand}
 use Rattle.harec_words.specs.Reading.{is_file, are_files, is_one_file, begins_with_dashes, is_program, is_units, units_of, number_in, units_behind, is_dashes, named_in, args_in, are_arguments, run_of, run_in, files_behind, file_behind, command_in}
-use Rattle.harec_words.proofs.PathLemmas.{file_decides}
-use Rattle.harec_words.proofs.ListLemmas.{IsCut, cut_at, cut_end}
+use Rattle.harec_words.proofs.PartsOfWords.Paths.{file_decides}
+use Rattle.harec_words.proofs.PartsOfWords.Lists.{IsCut, cut_at, cut_end}
 
 -- a test of what is run, and the command that it makes with units and arguments
 abbrev pub Test : Type 0

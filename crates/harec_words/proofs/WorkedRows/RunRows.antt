@@ -1,7 +1,7 @@
 -- Rows of `emit`, of `run`, and of words that are no command.
 use Rattle.std.proofs.Common.{refl}
 use Rattle.harec_words.specs.Commands.{default_units}
-use Rattle.harec_words.proofs.Worked.{Emits, Runs, RunsWith, Is, is, IsNone, none}
+use Rattle.harec_words.proofs.WorkedRows.Worked.{Emits, Runs, RunsWith, Is, is, IsNone, none}
 
 emit_one : Is "emit x.ha" (Emits "x.ha")
 emit_one = is refl

@@ -1,6 +1,6 @@
 -- Rows of the words that name files.
 use Rattle.std.proofs.Common.{refl}
-use Rattle.harec_words.proofs.Worked.{Checks, Is, is, IsNone, none}
+use Rattle.harec_words.proofs.WorkedRows.Worked.{Checks, Is, is, IsNone, none}
 
 one_file : Is "check x.ha" (Checks "x.ha")
 one_file = is refl

@@ -1,7 +1,7 @@
 -- Rows of `exec`.
 use Rattle.std.proofs.Common.{refl}
 use Rattle.harec_words.specs.Commands.{default_units}
-use Rattle.harec_words.proofs.Worked.{Executes, ExecutesWith, Is, is, IsNone, none}
+use Rattle.harec_words.proofs.WorkedRows.Worked.{Executes, ExecutesWith, Is, is, IsNone, none}
 
 exec_one : Is "exec x.ssa" (Executes default_units "x.ssa")
 exec_one = is refl

@@ -4,7 +4,7 @@ use Rattle.std.proofs.Common.{◌≡◌, ℕ, ◌==◌, List, [], Some, None, co
 use Rattle.std.specs.List.{slice_split}
 use Rattle.harec_words.specs.Commands.{Command, Check, Emit, Run, Exec, Fmt, IsCommand, IsNoCommand}
 use Rattle.harec_words.specs.Reading.{command_in}
-use Rattle.harec_words.proofs.CommandLemmas.{reads, tells}
+use Rattle.harec_words.proofs.ReadCommands.Commands.{reads, tells}
 
 abbrev pub spaced : String → List (List ℕ)
 spaced s = slice_split (λ c. c == 32) (codes s)

@@ -6,9 +6,9 @@ use Rattle.std.proofs.lemmas.List.Sums.{sum_by-le}
 use Rattle.std.proofs.lemmas.Bool.{false_from_ne_true}
 use Rattle.harec_words.specs.Commands.{Check, Run, IsCommand, IsNoCommand, IsFile, AreArguments, default_units}
 use Rattle.harec_words.specs.Reading.{are_files, are_arguments}
-use Rattle.harec_words.proofs.PathLemmas.{file_decides}
-use Rattle.harec_words.proofs.CommandLemmas.{files_decide, arguments_decide, reads}
-use Rattle.harec_words.proofs.Worked.{no_command}
+use Rattle.harec_words.proofs.PartsOfWords.Paths.{file_decides}
+use Rattle.harec_words.proofs.ReadCommands.Commands.{files_decide, arguments_decide, reads}
+use Rattle.harec_words.proofs.WorkedRows.Worked.{no_command}
 
 -- ---- bytes of a word that names a file
 

@@ -1,6 +1,6 @@
 -- Rows of `fmt`.
 use Rattle.std.proofs.Common.{refl}
-use Rattle.harec_words.proofs.Worked.{LaysOut, Is, is, IsNone, none}
+use Rattle.harec_words.proofs.WorkedRows.Worked.{LaysOut, Is, is, IsNone, none}
 
 fmt_one : Is "fmt x.ha" (LaysOut "x.ha")
 fmt_one = is refl
