@@ -6,9 +6,9 @@ use Rattle.hare_tree.specs.Spell.{spell_all}
 use Rattle.hare_ways.specs.declared.way.Way.{Way}
 use Rattle.hare_ways.specs.Ways.{end_way, roots_ways, file_ways}
 use Rattle.hare_ways.proofs.Counted.{files_have_ways}
-use Rattle.hare_commas.proofs.Flags.{IsPlain}
-use Rattle.hare_commas.proofs.Plain.{file-plain}
-use Rattle.hare_commas.proofs.Files.{commas-stand-in-trees}
+use Rattle.hare_commas.proofs.AddedCommas.Flags.{IsPlain}
+use Rattle.hare_commas.proofs.AddedCommas.Plain.{file-plain}
+use Rattle.hare_commas.proofs.WholeFiles.Files.{commas-stand-in-trees}
 use Rattle.hare_lines.specs.Read.{seen, comments_before}
 use Rattle.hare_lines.specs.Gaps.{at_start, placed, next_way, laid}
 use Rattle.hare_lines.specs.Layout.{with_end, laid_bytes}

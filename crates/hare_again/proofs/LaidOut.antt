@@ -25,7 +25,7 @@ use Rattle.hare_pieces.specs.Pieces.{ConsistsOf}
 use Rattle.hare_ways.specs.declared.way.Way.{Way}
 use Rattle.hare_ways.specs.Ways.{file_ways}
 use Rattle.hare_commas.specs.Commas.{AreMarks, comma_tokens, tokens_with, head_without, without_commas, kids_without, file_without}
-use Rattle.hare_commas.proofs.Marks.{ways-ask-at-marks}
+use Rattle.hare_commas.proofs.WholeFiles.Marks.{ways-ask-at-marks}
 use Rattle.hare_lines.specs.declared.way.Gap.{Gap}
 use Rattle.hare_lines.specs.Read.{Seen, seen, comments_before}
 use Rattle.hare_lines.specs.Gaps.{placed, at_start, behind_added, behind_piece, gap_of, comma_of, laid}

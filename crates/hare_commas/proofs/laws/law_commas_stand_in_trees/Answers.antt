@@ -1,4 +1,4 @@
-use Rattle.hare_commas.proofs.Files.{commas-stand-in-trees}
+use Rattle.hare_commas.proofs.WholeFiles.Files.{commas-stand-in-trees}
 use Rattle.hare_commas.proofs.laws.law_commas_stand_in_trees.Goals as goal
 
 pub returns : goal.returns

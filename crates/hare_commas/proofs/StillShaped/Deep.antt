@@ -7,9 +7,9 @@ use Rattle.hare_tree.specs.Forms.{form_of}
 use Rattle.hare_tree.specs.Spell.{spells}
 use Rattle.hare_tree.specs.Depth.{counted, is_node, is_operator, begins, first_number, numbers_behind, place_in, left_height, open_within, node_faults, deep, deep_each, is_nil, height}
 use Rattle.hare_tree.proofs.Low.Limits.{is_nil-append}
-use Rattle.hare_commas.proofs.Kin.{Adds, Kin, IsNothing, comma_for}
-use Rattle.hare_commas.proofs.Keeps.{KeepAll, both}
-use Rattle.hare_commas.proofs.Shaped.{kin-keeps}
+use Rattle.hare_commas.proofs.WaysAgain.Kin.{Adds, Kin, IsNothing, comma_for}
+use Rattle.hare_commas.proofs.StillShaped.Keeps.{KeepAll, both}
+use Rattle.hare_commas.proofs.StillShaped.Shaped.{kin-keeps}
 
 true-false : {A : Type 0} → true ≡ false → A
 true-false h = cc

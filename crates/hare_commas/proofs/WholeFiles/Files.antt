@@ -19,17 +19,17 @@ use Rattle.hare_ways.specs.Ways.{end_way, roots_ways, file_ways}
 use Rattle.hare_ways.specs.Walk.{row_ways}
 use Rattle.hare_ways.proofs.Walked.{roots-walk}
 use Rattle.hare_commas.specs.Commas.{with_commas, tokens_with, AreSpread, without_comma, head_without, without_commas, kids_without, CommasStandInTrees}
-use Rattle.hare_commas.proofs.Spread.{spread-left, spread-next, with_commas-append}
-use Rattle.hare_commas.proofs.Tokens.{with-append}
-use Rattle.hare_commas.proofs.Kin.{Adds, Kin, IsNothing, comma_for}
-use Rattle.hare_commas.proofs.Kids.{row-again}
-use Rattle.hare_commas.proofs.Parts.{row_length}
-use Rattle.hare_commas.proofs.ListForms.{AreRegular}
-use Rattle.hare_commas.proofs.Trees.{kids-again}
-use Rattle.hare_commas.proofs.Keeps.{both}
-use Rattle.hare_commas.proofs.Shaped.{adds-keeps}
-use Rattle.hare_commas.proofs.Deep.{deep-kept}
-use Rattle.hare_commas.proofs.Regular.{shaped-regular}
+use Rattle.hare_commas.proofs.AddedCommas.Spread.{spread-left, spread-next, with_commas-append}
+use Rattle.hare_commas.proofs.AddedCommas.Tokens.{with-append}
+use Rattle.hare_commas.proofs.WaysAgain.Kin.{Adds, Kin, IsNothing, comma_for}
+use Rattle.hare_commas.proofs.WaysAgain.Kids.{row-again}
+use Rattle.hare_commas.proofs.WaysAgain.Parts.{row_length}
+use Rattle.hare_commas.proofs.WaysAgain.ListForms.{AreRegular}
+use Rattle.hare_commas.proofs.WaysAgain.Trees.{kids-again}
+use Rattle.hare_commas.proofs.StillShaped.Keeps.{both}
+use Rattle.hare_commas.proofs.StillShaped.Shaped.{adds-keeps}
+use Rattle.hare_commas.proofs.StillShaped.Deep.{deep-kept}
+use Rattle.hare_commas.proofs.StillShaped.Regular.{shaped-regular}
 
 -- ---- the same tree, but for commas
 

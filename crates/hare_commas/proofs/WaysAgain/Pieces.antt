@@ -18,13 +18,13 @@ use Rattle.hare_ways.specs.Walk.{start_of, part_ways, inside_behind_part, pieces
 use Rattle.hare_ways.proofs.Counted.{within_if}
 use Rattle.hare_ways.proofs.PartLemmas.{tokens-part, spells-behind}
 use Rattle.hare_commas.specs.Commas.{with_commas, tokens_with}
-use Rattle.hare_commas.proofs.Spread.{add-zero, spread-left, spread-next, with_commas-append}
+use Rattle.hare_commas.proofs.AddedCommas.Spread.{add-zero, spread-left, spread-next, with_commas-append}
 use Rattle.hare_commas.specs.Commas.{AreSpread}
-use Rattle.hare_commas.proofs.Flags.{with_commas-within, spread-within}
-use Rattle.hare_commas.proofs.Tokens.{with-append, with-within}
-use Rattle.hare_commas.proofs.Kin.{Kin}
-use Rattle.hare_commas.proofs.Kids.{AreAgain}
-use Rattle.hare_commas.proofs.Parts.{quiet, part-length, part_closes, IsCalm, fixed-calm, part-again}
+use Rattle.hare_commas.proofs.AddedCommas.Flags.{with_commas-within, spread-within}
+use Rattle.hare_commas.proofs.AddedCommas.Tokens.{with-append, with-within}
+use Rattle.hare_commas.proofs.WaysAgain.Kin.{Kin}
+use Rattle.hare_commas.proofs.WaysAgain.Kids.{AreAgain}
+use Rattle.hare_commas.proofs.WaysAgain.Parts.{quiet, part-length, part_closes, IsCalm, fixed-calm, part-again}
 
 -- ---- pieces
 

@@ -13,7 +13,7 @@ use Rattle.hare_tree.specs.Forms.{form_of}
 use Rattle.hare_tree.specs.Levels.{sort_in}
 use Rattle.hare_tree.specs.Shape.{Ending, is_shaped, are_kids, is_none, is_leaf, is_absent, is_none_or_comma, is_none_or_dots, stops, stops_each, Edge, edges, begins_labelled, first_labelled, form_begins_labelled}
 use Rattle.hare_tree.specs.Depth.{counted, height, greatest_height}
-use Rattle.hare_commas.proofs.Kin.{IsNothing, comma_for}
+use Rattle.hare_commas.proofs.WaysAgain.Kin.{IsNothing, comma_for}
 
 -- what a tree with its commas keeps of the tree
 pub record Keeps (t u : Node) : Type 0 where

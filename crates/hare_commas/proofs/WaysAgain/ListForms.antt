@@ -21,9 +21,9 @@ use Rattle.hare_ways.specs.Breaks.{Item, is_list, is_braced, is_case, opening, c
 use Rattle.hare_ways.specs.Ways.{item_start}
 use Rattle.hare_ways.specs.Parts.{part_of, items_of}
 use Rattle.hare_ways.specs.Walk.{start_of, inside_behind_part}
-use Rattle.hare_commas.proofs.Pieces.{closes, nodes_after, has_sign, pieces_from, nodes_at}
-use Rattle.hare_commas.proofs.Kin.{IsNothing}
-use Rattle.hare_commas.proofs.Kids.{EndsInNothing, ListEndsInNothing}
+use Rattle.hare_commas.proofs.WaysAgain.Pieces.{closes, nodes_after, has_sign, pieces_from, nodes_at}
+use Rattle.hare_commas.proofs.WaysAgain.Kin.{IsNothing}
+use Rattle.hare_commas.proofs.WaysAgain.Kids.{EndsInNothing, ListEndsInNothing}
 
 false-true : {A : Type 0} → false ≡ true → A
 false-true h = cc

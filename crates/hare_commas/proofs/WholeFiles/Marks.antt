@@ -30,10 +30,10 @@ use Rattle.hare_ways.proofs.Counted.{kid_length}
 use Rattle.hare_ways.proofs.Puts.{kid-nothing, before-alone, before-sign, behind-alone, behind-sign}
 use Rattle.hare_ways.proofs.Walked.{tree-walk, roots-walk}
 use Rattle.hare_commas.specs.Commas.{IsPlainMark, asks, AreMarks, WaysAskAtMarks}
-use Rattle.hare_commas.proofs.Tokens.{alone-before, sign-before, alone-behind, sign-behind}
-use Rattle.hare_commas.proofs.Kids.{starts-long, listed-first}
-use Rattle.hare_commas.proofs.Parts.{part-length, row_length}
-use Rattle.hare_commas.proofs.Pieces.{within-length, pieces-first}
+use Rattle.hare_commas.proofs.AddedCommas.Tokens.{alone-before, sign-before, alone-behind, sign-behind}
+use Rattle.hare_commas.proofs.WaysAgain.Kids.{starts-long, listed-first}
+use Rattle.hare_commas.proofs.WaysAgain.Parts.{part-length, row_length}
+use Rattle.hare_commas.proofs.WaysAgain.Pieces.{within-length, pieces-first}
 
 false-true : {A : Type 0} → false ≡ true → A
 false-true h = cc

@@ -21,7 +21,7 @@ use Rattle.hare_ways.specs.declared.way.Start.{Start}
 use Rattle.hare_ways.specs.declared.way.Way.{Way}
 use Rattle.hare_ways.specs.declared.breaks.Breaks.{Breaks}
 use Rattle.hare_ways.specs.Ways.{Laid, ways, kids_laid, pieces_ways, within_brackets, inside_behind, fixed_way, deeper, led_ways, all_ways, own_ways, path_ways, label_ways, end_way, roots_ways, file_ways}
-use Rattle.hare_commas.proofs.Flags.{IsPlain, plain-append, plain-starting, plain-within}
+use Rattle.hare_commas.proofs.AddedCommas.Flags.{IsPlain, plain-append, plain-starting, plain-within}
 
 abbrev ArePlain : List Laid → Type 0
 ArePlain [] = Unit {0}

@@ -19,12 +19,12 @@ use Rattle.hare_ways.specs.Walk.{kid_ways, row_ways, listed_walk}
 use Rattle.hare_ways.proofs.Puts.{kid-nothing, before-alone, before-sign, behind-alone, behind-sign}
 use Rattle.hare_ways.proofs.Counted.{kid_length}
 use Rattle.hare_commas.specs.Commas.{comma_way, with_commas, comma_tokens, tokens_with}
-use Rattle.hare_commas.proofs.Spread.{spread-left, spread-next, with_commas-append}
+use Rattle.hare_commas.proofs.AddedCommas.Spread.{spread-left, spread-next, with_commas-append}
 use Rattle.hare_commas.specs.Commas.{AreSpread}
-use Rattle.hare_commas.proofs.Flags.{with_commas-starting, spread-starting}
-use Rattle.hare_commas.proofs.Plain.{ways-plain}
-use Rattle.hare_commas.proofs.Tokens.{with-append, with-starting, alone-before, sign-before, alone-behind, sign-behind}
-use Rattle.hare_commas.proofs.Kin.{Adds, Kin, IsNothing, comma_for}
+use Rattle.hare_commas.proofs.AddedCommas.Flags.{with_commas-starting, spread-starting}
+use Rattle.hare_commas.proofs.AddedCommas.Plain.{ways-plain}
+use Rattle.hare_commas.proofs.AddedCommas.Tokens.{with-append, with-starting, alone-before, sign-before, alone-behind, sign-behind}
+use Rattle.hare_commas.proofs.WaysAgain.Kin.{Adds, Kin, IsNothing, comma_for}
 
 -- ---- trees
 

@@ -25,16 +25,19 @@ use Rattle.hare_ways.specs.Parts.{part_of, part_tokens, nodes_behind, items_of}
 use Rattle.hare_ways.specs.Walk.{start_of, part_ways, inside_behind_part, pieces_walk}
 use Rattle.hare_ways.proofs.Walked.{tree-walk}
 use Rattle.hare_commas.specs.Commas.{comma_way, with_commas, tokens_with}
-use Rattle.hare_commas.proofs.Spread.{add-zero, spread-left, spread-next, with_commas-append}
+use Rattle.hare_commas.proofs.AddedCommas.Spread.{add-zero, spread-left, spread-next, with_commas-append}
 use Rattle.hare_commas.specs.Commas.{AreSpread}
-use Rattle.hare_commas.proofs.Flags.{with_commas-deeper, spread-deeper}
-use Rattle.hare_commas.proofs.Kin.{Kin, kin-same, kin-items, Ended, kin-ended, behind-ended, ended-comma, ended-wants}
-use Rattle.hare_commas.proofs.Kids.{Again, IsAgain, AreAgain, row-comma, listed-comma}
-use Rattle.hare_commas.proofs.Tokens.{with-append, with-deeper}
-use Rattle.hare_commas.proofs.Parts.{quiet, part-length}
-use Rattle.hare_commas.proofs.Pieces.{nodes_after, within-length, has_sign, SignAgain, pieces-first, pieces-again, areagain-behind}
-use Rattle.hare_commas.proofs.ListForms.{list_part, inside_after, list_kids, Wants, ListForm, list-form, list-is-no-case, list-is-not-braced, EndsOpen, TakeSigns, IsRegular, AreRegular, ends-in-nothing, list-ends-in-nothing}
-use Rattle.hare_commas.proofs.Comments.{broken-same, own-lines-same}
+use Rattle.hare_commas.proofs.AddedCommas.Flags.{with_commas-deeper, spread-deeper}
+use Rattle.hare_commas.proofs.WaysAgain.Kin.{Kin, kin-same, kin-items, Ended, kin-ended, behind-ended, ended-comma, ended-wants}
+use Rattle.hare_commas.proofs.WaysAgain.Kids.{Again, IsAgain, AreAgain, row-comma, listed-comma}
+use Rattle.hare_commas.proofs.AddedCommas.Tokens.{with-append, with-deeper}
+use Rattle.hare_commas.proofs.WaysAgain.Parts.{quiet, part-length}
+use Rattle.hare_commas.proofs.WaysAgain.Pieces.{nodes_after, within-length, has_sign, SignAgain, pieces-first, pieces-again}
+use Rattle.hare_commas.proofs.WaysAgain.Pieces.{areagain-behind}
+use Rattle.hare_commas.proofs.WaysAgain.ListForms.{list_part, inside_after, list_kids, Wants, ListForm, list-form, list-is-no-case}
+use Rattle.hare_commas.proofs.WaysAgain.ListForms.{list-is-not-braced, EndsOpen, TakeSigns, IsRegular, AreRegular, ends-in-nothing}
+use Rattle.hare_commas.proofs.WaysAgain.ListForms.{list-ends-in-nothing}
+use Rattle.hare_commas.proofs.WaysAgain.Comments.{broken-same, own-lines-same}
 
 true-false : {A : Type 0} → true ≡ false → A
 true-false h = cc

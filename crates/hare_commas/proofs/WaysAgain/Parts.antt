@@ -23,9 +23,9 @@ use Rattle.hare_ways.specs.Walk.{kid_ways, first_ways, row_ways, listed_walk, pa
 use Rattle.hare_ways.proofs.Counted.{path_length, kid_length}
 use Rattle.hare_commas.specs.Commas.{settled, comma_ways, with_commas, tokens_with}
 use Rattle.hare_commas.specs.Commas.{AreSpread}
-use Rattle.hare_commas.proofs.Tokens.{with-sign, with-own}
-use Rattle.hare_commas.proofs.Kin.{Kin}
-use Rattle.hare_commas.proofs.Kids.{AreAgain, kid-again, row-again, listed-again}
+use Rattle.hare_commas.proofs.AddedCommas.Tokens.{with-sign, with-own}
+use Rattle.hare_commas.proofs.WaysAgain.Kin.{Kin}
+use Rattle.hare_commas.proofs.WaysAgain.Kids.{AreAgain, kid-again, row-again, listed-again}
 
 -- the same, but that no comma is added
 abbrev pub quiet : Breaks → Breaks

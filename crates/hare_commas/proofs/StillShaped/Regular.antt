@@ -16,7 +16,7 @@ use Rattle.hare_tree.specs.Judged.{nodes_from}
 use Rattle.hare_tree.proofs.TreeKids.KidSorts.{shaped_kids}
 use Rattle.hare_tree.proofs.TreeKids.ShapedKids.{AllShaped, shaped_admits, kids_of_shaped}
 use Rattle.hare_ways.specs.Breaks.{is_list, is_case}
-use Rattle.hare_commas.proofs.ListForms.{list_kids, IsOpen, EndsOpen, TakeSigns, IsRegular, AreRegular}
+use Rattle.hare_commas.proofs.WaysAgain.ListForms.{list_kids, IsOpen, EndsOpen, TakeSigns, IsRegular, AreRegular}
 
 false-true : {A : Type 0} → false ≡ true → A
 false-true h = cc

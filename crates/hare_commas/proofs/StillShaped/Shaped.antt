@@ -16,9 +16,10 @@ use Rattle.hare_tree.specs.Shape.{is_shaped, are_kids, is_none, is_dots, is_leaf
 use Rattle.hare_tree.specs.Depth.{counted, height}
 use Rattle.hare_ways.specs.Breaks.{is_list, opening, kids_behind, wants_behind, wants_comma}
 use Rattle.hare_ways.specs.Parts.{items_of}
-use Rattle.hare_commas.proofs.Kin.{Adds, Kin, IsNothing, comma_for}
-use Rattle.hare_commas.proofs.Trees.{list-stops}
-use Rattle.hare_commas.proofs.Keeps.{Keeps, KeepAll, both, stops-kept, edge_of, edge-kept, edges-kept, first-labelled-kept, heights-kept, kids-kept}
+use Rattle.hare_commas.proofs.WaysAgain.Kin.{Adds, Kin, IsNothing, comma_for}
+use Rattle.hare_commas.proofs.WaysAgain.Trees.{list-stops}
+use Rattle.hare_commas.proofs.StillShaped.Keeps.{Keeps, KeepAll, both, stops-kept, edge_of, edge-kept, edges-kept, first-labelled-kept}
+use Rattle.hare_commas.proofs.StillShaped.Keeps.{heights-kept, kids-kept}
 
 false-true : {A : Type 0} → false ≡ true → A
 false-true h = cc

@@ -21,12 +21,12 @@ use Rattle.hare_ways.specs.Parts.{items_of}
 use Rattle.hare_ways.specs.Walk.{kid_ways, row_ways, pieces_walk}
 use Rattle.hare_ways.proofs.Puts.{behind-sign}
 use Rattle.hare_commas.specs.Commas.{settled, comma_ways, with_commas}
-use Rattle.hare_commas.proofs.Spread.{spread-next, spread-here}
+use Rattle.hare_commas.proofs.AddedCommas.Spread.{spread-next, spread-here}
 use Rattle.hare_commas.specs.Commas.{AreSpread}
-use Rattle.hare_commas.proofs.Flags.{IsPlain, plain-starting}
-use Rattle.hare_commas.proofs.Plain.{ways-plain}
-use Rattle.hare_commas.proofs.Pieces.{has_sign, nodes_at, SignAgain}
-use Rattle.hare_commas.proofs.ListForms.{brackets-are-signs, case-form, TakeSigns}
+use Rattle.hare_commas.proofs.AddedCommas.Flags.{IsPlain, plain-starting}
+use Rattle.hare_commas.proofs.AddedCommas.Plain.{ways-plain}
+use Rattle.hare_commas.proofs.WaysAgain.Pieces.{has_sign, nodes_at, SignAgain}
+use Rattle.hare_commas.proofs.WaysAgain.ListForms.{brackets-are-signs, case-form, TakeSigns}
 
 -- ---- at a sign
 
