@@ -13,7 +13,7 @@ use Rattle.hare_lines.specs.declared.way.Gap.{Gap}
 use Rattle.hare_lines.specs.declared.way.Gap.TheVariants.{First, Join, Blank, Line}
 use Rattle.hare_lines.specs.Gaps.{Behind, Placed, line, comment_gap, comment_tabs, lengthened, are_digits, grows, joins, within_line, start_gap, before_gap, token_gap, tabs_of, gap_of, previous_of, behind_token}
 use Rattle.hare_lines.specs.Layout.{read_again}
-use Rattle.hare_lines.proofs.Again.{gaps_stay}
+use Rattle.hare_lines.proofs.LayoutLaws.Again.{gaps_stay}
 
 -- no piece behind this one is kept apart from it
 pub record IsQuiet (s : List ℕ) : Type 0 where

@@ -5,7 +5,7 @@ use Rattle.hare_tree.specs.declared.kind.Kind.TheVariants as ki
 use Rattle.hare_tree.specs.Spell.{spell}
 use Rattle.hare_tree.specs.Shape.{stops}
 use Rattle.hare_ways.specs.Ways.{ways}
-use Rattle.hare_lines.proofs.RowWords.{text, pieces, node, named, none, comma, a, b, file, set, laid_out}
+use Rattle.hare_lines.proofs.Rows.RowWords.{text, pieces, node, named, none, comma, a, b, file, set, laid_out}
 use Rattle.hare_again.specs.Again.{layout_seen, comments_of}
 
 a_comma_is_read : layout_seen (file [] (set (node ki.Call (a ∷ b ∷ none ∷ [])) ∷ [])) (pieces (codes "let x = a ( b //c @ ) ;"))

@@ -5,7 +5,7 @@ use Rattle.hare_automaton.proofs.Spelled.Files.{tokens_have_one_file}
 use Rattle.hare_decl.specs.Answers.{IsSource}
 use Rattle.hare_lines.specs.Layout.{IsLaidOut}
 use Rattle.hare_fmt.specs.Answer.{GivesText}
-use Rattle.hare_lines.proofs.Once.{sources_have_one_layout}
+use Rattle.hare_lines.proofs.LayoutLaws.Once.{sources_have_one_layout}
 
 -- what is laid out has a tree
 pub laid_out-tree : (src text : List ℕ) (l : IsLaidOut src text) → IsSource 0 src l.tree

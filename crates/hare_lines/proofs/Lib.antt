@@ -1,12 +1,3 @@
-pub mod Once
-pub mod Written
-pub mod Trimmed
-pub mod ReadLemmas
-pub mod Kept
-pub mod Again
-pub mod Grown
-pub mod RowWords
-pub mod LineRows
-pub mod BreakRows
-pub mod LayoutRows
-pub mod CommentCounts
+pub mod Steps
+pub mod LayoutLaws
+pub mod Rows

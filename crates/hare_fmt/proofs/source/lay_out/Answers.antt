@@ -5,7 +5,7 @@ use Rattle.hare_ways.specs.Ways.{file_ways}
 use Rattle.hare_ways.proofs.Counted.{files_have_ways}
 use Rattle.hare_lines.specs.Read.{seen, comments_before}
 use Rattle.hare_lines.specs.Layout.{IsLaidOut, InOrder, written}
-use Rattle.hare_lines.proofs.Kept.{pieces_are_in_order}
+use Rattle.hare_lines.proofs.LayoutLaws.Kept.{pieces_are_in_order}
 use Rattle.hare_fmt.proofs.Sized.{sources_are_short}
 use Rattle.hare_fmt.proofs.source.lay_out.Goals as goal
 

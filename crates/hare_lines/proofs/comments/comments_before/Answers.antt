@@ -1,8 +1,8 @@
 use Rattle.std.proofs.Common.{false, get_or, ap, sym, subst, ◌∙◌, arith}
 use Rattle.hare_pieces.specs.declared.piece.Piece.{Piece}
 use Rattle.hare_lines.specs.Read.{is_quoted}
-use Rattle.hare_lines.proofs.Written.{piece_at}
-use Rattle.hare_lines.proofs.CommentCounts.{Counts, counts_start, counts_lies, counts_comment, counts_token, counts_end}
+use Rattle.hare_lines.proofs.Steps.Written.{piece_at}
+use Rattle.hare_lines.proofs.Steps.CommentCounts.{Counts, counts_start, counts_lies, counts_comment, counts_token, counts_end}
 use Rattle.hare_lines.proofs.comments.comments_before.Goals as goal
 
 pub loop-i-init : goal.loop-i-init

@@ -1,4 +1,4 @@
-use Rattle.hare_lines.proofs.CommentCounts.{Counts}
+use Rattle.hare_lines.proofs.Steps.CommentCounts.{Counts}
 use Rattle.hare_lines.proofs.comments.comments_before.Given as goal
 
 -- what is counted, and behind it what is left, are the whole

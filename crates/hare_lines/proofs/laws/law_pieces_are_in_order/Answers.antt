@@ -1,4 +1,4 @@
-use Rattle.hare_lines.proofs.Kept.{pieces_are_in_order}
+use Rattle.hare_lines.proofs.LayoutLaws.Kept.{pieces_are_in_order}
 use Rattle.hare_lines.proofs.laws.law_pieces_are_in_order.Goals as goal
 
 pub returns : goal.returns

@@ -1,4 +1,4 @@
-use Rattle.hare_lines.proofs.Kept.{placed_are_seen, laid_are_kept}
+use Rattle.hare_lines.proofs.LayoutLaws.Kept.{placed_are_seen, laid_are_kept}
 use Rattle.hare_lines.proofs.laws.law_pieces_are_kept.Goals as goal
 
 pub returns-clause-placed : goal.returns-clause-placed

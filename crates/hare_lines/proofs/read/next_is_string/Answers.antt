@@ -1,4 +1,4 @@
-use Rattle.hare_lines.proofs.ReadLemmas.{ahead_end}
+use Rattle.hare_lines.proofs.Steps.Ahead.{ahead_end}
 use Rattle.hare_lines.proofs.read.next_is_string.Goals as goal
 
 pub returns : goal.returns

@@ -1,4 +1,4 @@
-use Rattle.hare_lines.proofs.ReadLemmas.{Ahead}
+use Rattle.hare_lines.proofs.Steps.Ahead.{Ahead}
 use Rattle.hare_lines.proofs.read.next_is_string.Given as goal
 
 -- all pieces so far are comments

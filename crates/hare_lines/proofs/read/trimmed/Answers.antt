@@ -1,5 +1,5 @@
 use Rattle.std.proofs.Common.{◌∙◌, sym, arith}
-use Rattle.hare_lines.proofs.Trimmed.{trimmed_less, trimmed_done, trimmed_none}
+use Rattle.hare_lines.proofs.Steps.Trimmed.{trimmed_less, trimmed_done, trimmed_none}
 use Rattle.hare_lines.proofs.read.trimmed.Goals as goal
 use Rattle.hare_lines.proofs.read.trimmed.Goals.{then-blanks-test+else-is_blank, else-blanks-test}
 

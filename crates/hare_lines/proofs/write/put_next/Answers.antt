@@ -3,7 +3,7 @@ use Rattle.hare_pieces.specs.declared.piece.Piece.{Piece}
 use Rattle.hare_lines.specs.declared.write.State.{State}
 use Rattle.hare_lines.specs.Read.{seen_from, is_quoted}
 use Rattle.hare_lines.specs.Gaps.{next_is_string}
-use Rattle.hare_lines.proofs.Written.{piece_at, comment_written, token_written}
+use Rattle.hare_lines.proofs.Steps.Written.{piece_at, comment_written, token_written}
 use Rattle.hare_lines.proofs.write.put_next.Goals as goal
 
 pub returns-then-piece-clause-text : goal.returns-then-piece-clause-text

@@ -4,7 +4,7 @@ use Rattle.hare_pieces.specs.declared.piece.Piece.{Piece}
 use Rattle.hare_lines.specs.Read.{seen_from, body_of, is_quoted}
 use Rattle.hare_lines.specs.Gaps.{next_is_string}
 use Rattle.hare_lines.specs.Layout.{InOrder}
-use Rattle.hare_lines.proofs.Written.{piece_next}
+use Rattle.hare_lines.proofs.Steps.Written.{piece_next}
 
 -- what is ahead of these pieces is what is ahead of those from the i-th on
 pub record Ahead (src : List ℕ) (at : ℕ) (ps : List Piece) (i : ℕ) : Type 0 where

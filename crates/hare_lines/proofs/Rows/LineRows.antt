@@ -6,7 +6,8 @@ use Rattle.hare_tree.specs.Spell.{spell}
 use Rattle.hare_tree.specs.Shape.{stops}
 use Rattle.hare_ways.specs.Ways.{ways}
 use Rattle.hare_lines.specs.Layout.{layout}
-use Rattle.hare_lines.proofs.RowWords.{text, pieces, node, named, none, dots, name, path, a, b, c, number, scalar, int, file, set, type, laid_out}
+use Rattle.hare_lines.proofs.Rows.RowWords.{text, pieces, node, named, none, dots, name, path, a, b, c, number, scalar, int, file, set}
+use Rattle.hare_lines.proofs.Rows.RowWords.{type, laid_out}
 
 -- ---- types
 

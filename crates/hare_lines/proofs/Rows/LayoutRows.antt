@@ -8,7 +8,8 @@ use Rattle.hare_pieces.specs.declared.piece.Piece.{Piece}
 use Rattle.hare_ways.specs.Ways.{ways}
 use Rattle.hare_lines.specs.Read.{Seen, seen}
 use Rattle.hare_lines.specs.Layout.{layout, layout_of}
-use Rattle.hare_lines.proofs.RowWords.{text, pieces, node, named, none, comma, name, path, a, b, c, number, scalar, int, file, set, laid_out}
+use Rattle.hare_lines.proofs.Rows.RowWords.{text, pieces, node, named, none, comma, name, path, a, b, c, number, scalar, int, file, set}
+use Rattle.hare_lines.proofs.Rows.RowWords.{laid_out}
 
 -- ---- comments
 

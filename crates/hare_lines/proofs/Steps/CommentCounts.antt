@@ -4,7 +4,7 @@ use Rattle.std.specs.Prelude.{◌&&◌, not}
 use Rattle.hare_pieces.specs.declared.piece.Piece.{Piece}
 use Rattle.hare_lines.specs.Read.{seen, seen_from, body_of, is_quoted, comments_before}
 use Rattle.hare_lines.specs.Layout.{InOrder}
-use Rattle.hare_lines.proofs.ReadLemmas.{Lies, drop_over}
+use Rattle.hare_lines.proofs.Steps.Ahead.{Lies, drop_over}
 
 -- what is counted, and behind it what is left from the i-th piece on, are the whole
 pub record Counts (src : List ℕ) (ps : List Piece) (i : ℕ) (counts : List ℕ) (n : ℕ) (behind_string : Bool) : Type 0 where
