@@ -1,4 +1,4 @@
-use Rattle.hare_again.proofs.Comments.{comments-stay}
+use Rattle.hare_again.proofs.LaidAsBefore.Comments.{comments-stay}
 use Rattle.hare_again.proofs.laws.law_comments_stay.Goals as goal
 
 pub returns : goal.returns

@@ -1,4 +1,4 @@
-use Rattle.hare_again.proofs.Files.{layouts-stay, sources-stay}
+use Rattle.hare_again.proofs.LaidAsBefore.Files.{layouts-stay, sources-stay}
 use Rattle.hare_again.proofs.laws.law_layouts_stay.Goals as goal
 
 pub returns-clause-layouts : goal.returns-clause-layouts

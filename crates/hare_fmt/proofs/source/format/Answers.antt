@@ -1,4 +1,4 @@
-use Rattle.hare_again.proofs.LaidOut.{layouts-are-laid-out}
+use Rattle.hare_again.proofs.WholeLayouts.LaidOut.{layouts-are-laid-out}
 use Rattle.hare_fmt.specs.Answer.{GivesText, GivesFault}
 use Rattle.hare_fmt.proofs.Answered.{err_gives, laid_out-tree, text-gives}
 use Rattle.hare_fmt.proofs.source.format.Goals as goal

@@ -7,7 +7,7 @@ use Rattle.hare_tree.specs.Tokens.{is_path_mark}
 use Rattle.hare_pieces.specs.Pieces.{ConsistsOf}
 use Rattle.hare_lines.specs.Read.{Seen, seen_from, feeds_in, trimmed}
 use Rattle.hare_again.specs.Reading.{Part, text_of, AreParts, places, read_of, TextsAreRead}
-use Rattle.hare_again.proofs.Sources.{slice-at, piece-text, rest-text}
+use Rattle.hare_again.proofs.LaidAsBefore.Sources.{slice-at, piece-text, rest-text}
 
 parts-consist : (at : ℕ) (b : Bool) (xs : List Part) (end : List ℕ) (ts : List Token) → AreParts b xs end ts
     → ConsistsOf at b (text_of xs end) ts (places at xs)

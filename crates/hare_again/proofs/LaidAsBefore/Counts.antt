@@ -8,7 +8,7 @@ use Rattle.hare_lines.specs.Read.{Seen, is_quoted, is_string, comments_before}
 use Rattle.hare_lines.specs.Gaps.{Behind, placed, next_is_string, string_way, behind_piece, behind_comma, at_start}
 use Rattle.hare_lines.specs.Layout.{read_again}
 use Rattle.hare_again.specs.Again.{comma_seen, laid_seen, written_seen}
-use Rattle.hare_again.proofs.PiecesAgain.{seen_as, way_as}
+use Rattle.hare_again.proofs.LaidAsBefore.PiecesAgain.{seen_as, way_as}
 
 -- ---- the end
 

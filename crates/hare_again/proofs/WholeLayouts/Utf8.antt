@@ -26,8 +26,8 @@ use Rattle.hare_ways.specs.declared.way.Way.{Way}
 use Rattle.hare_lines.specs.Read.{Seen, seen_from, before_blanks, trimmed, is_string}
 use Rattle.hare_lines.specs.Gaps.{Behind, Placed, placed, at_start, next_is_string, without_comma, laid, comma_of, gap_of, behind_added, behind_piece}
 use Rattle.hare_lines.specs.Layout.{gap_bytes, with_end, laid_bytes, written}
-use Rattle.hare_again.proofs.PiecesAgain.{way_here}
-use Rattle.hare_again.proofs.Sources.{piece-text, rest-text, rest-at}
+use Rattle.hare_again.proofs.LaidAsBefore.PiecesAgain.{way_here}
+use Rattle.hare_again.proofs.LaidAsBefore.Sources.{piece-text, rest-text, rest-at}
 
 -- ---- texts cut in front of an ASCII byte
 

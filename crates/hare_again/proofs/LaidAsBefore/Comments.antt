@@ -5,7 +5,7 @@ use Rattle.hare_lines.specs.Read.{Seen, is_string}
 use Rattle.hare_lines.specs.Gaps.{Behind, Placed, placed, next_is_string, without_comma, behind_piece, behind_added, at_start}
 use Rattle.hare_lines.specs.Layout.{read_again}
 use Rattle.hare_again.specs.Again.{comma_seen, laid_seen, comment_of, comments_of, CommentsStay}
-use Rattle.hare_again.proofs.PiecesAgain.{way_here}
+use Rattle.hare_again.proofs.LaidAsBefore.PiecesAgain.{way_here}
 
 -- a comma is no comment
 behind-comma : (y : Bool) (x : Seen) (rest : List Seen)

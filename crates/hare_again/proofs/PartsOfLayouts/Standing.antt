@@ -27,7 +27,7 @@ use Rattle.hare_lex.proofs.Sound.Marks.{no_other_kind, mark_listed}
 use Rattle.hare_lex.proofs.Fronts.Standing.{first_same, no_fraction}
 use Rattle.hare_lines.specs.Gaps.{lengthened, are_digits}
 use Rattle.hare_lines.proofs.LayoutLaws.Grown.{digits_run}
-use Rattle.hare_again.proofs.Strings.{string_closes, string_of}
+use Rattle.hare_again.proofs.PartsOfLayouts.Strings.{string_closes, string_of}
 
 -- What a token is spelled by, without a fault of its own, wherever it stands.
 pub record IsToken (behind_path : Bool) (t : Token) (s : List ℕ) : Type 0 where

@@ -13,7 +13,7 @@ use Rattle.hare_lines.specs.Read.{Seen, is_quoted, is_string}
 use Rattle.hare_lines.specs.Gaps.{Behind, Placed, placed, next_way, next_is_string, string_way, without_comma, gap_of, are_digits, within_line, before_gap, behind_piece, behind_token, behind_comment, behind_comma, comma_of, behind_added, laid, at_start, is_opening}
 use Rattle.hare_lines.specs.Layout.{read_again}
 use Rattle.hare_again.specs.Again.{comma_seen, laid_seen, PiecesStay}
-use Rattle.hare_again.proofs.Alike.{quiet-nothing, quiet-comma, IsAlike, alike-same, gap-again, behind-alike}
+use Rattle.hare_again.proofs.LaidAsBefore.Alike.{quiet-nothing, quiet-comma, IsAlike, alike-same, gap-again, behind-alike}
 
 -- ---- the pieces with their ways
 

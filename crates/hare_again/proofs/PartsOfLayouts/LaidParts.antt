@@ -31,10 +31,10 @@ use Rattle.hare_lines.specs.Gaps.{Behind, Placed, placed, next_way, next_is_stri
 use Rattle.hare_lines.specs.Layout.{gap_bytes, laid_bytes, read_again}
 use Rattle.hare_again.specs.Again.{comma_seen, laid_seen}
 use Rattle.hare_again.specs.Reading.{Part, text_of, AreParts, read_of}
-use Rattle.hare_again.proofs.Alike.{comma-kept}
-use Rattle.hare_again.proofs.Gaps.{gaps-are-read}
-use Rattle.hare_again.proofs.PiecesAgain.{seen_as, way_here}
-use Rattle.hare_again.proofs.Standing.{IsToken, IsClear, token-stands, token-fresh, other-no-word}
+use Rattle.hare_again.proofs.LaidAsBefore.Alike.{comma-kept}
+use Rattle.hare_again.proofs.PartsOfLayouts.Gaps.{gaps-are-read}
+use Rattle.hare_again.proofs.LaidAsBefore.PiecesAgain.{seen_as, way_here}
+use Rattle.hare_again.proofs.PartsOfLayouts.Standing.{IsToken, IsClear, token-stands, token-fresh, other-no-word}
 
 true-false : {A : Type 0} → true ≡ false → A
 true-false h = cc

@@ -13,9 +13,9 @@ use Rattle.hare_lines.specs.Read.{seen, comments_before}
 use Rattle.hare_lines.specs.Gaps.{at_start, placed, next_way, laid}
 use Rattle.hare_lines.specs.Layout.{with_end, laid_bytes}
 use Rattle.hare_again.specs.Again.{layout_seen, LayoutsStay, SourcesStay}
-use Rattle.hare_again.proofs.PiecesAgain.{pieces-stay}
-use Rattle.hare_again.proofs.Sources.{sources-count}
-use Rattle.hare_again.proofs.Counts.{EndsPlain, counts-spread}
+use Rattle.hare_again.proofs.LaidAsBefore.PiecesAgain.{pieces-stay}
+use Rattle.hare_again.proofs.LaidAsBefore.Sources.{sources-count}
+use Rattle.hare_again.proofs.LaidAsBefore.Counts.{EndsPlain, counts-spread}
 
 first-way : (ws : List Way) → IsPlain ws → (next_way ws).comma ≡ false
 first-way [] p = refl

@@ -33,16 +33,17 @@ use Rattle.hare_lines.specs.Layout.{IsLaidOut, with_end as ended, gap_bytes, lai
 use Rattle.hare_again.specs.Again.{comments_of, layout_seen, written_seen}
 use Rattle.hare_again.specs.Reading.{Part, text_of, AreParts, places, read_of}
 use Rattle.hare_again.specs.Laid.{LayoutsHaveParts, LayoutsAreLaidOut}
-use Rattle.hare_again.proofs.Comments.{comments-stay}
-use Rattle.hare_again.proofs.Files.{sources-stay}
-use Rattle.hare_again.proofs.Reading.{texts-are-read}
-use Rattle.hare_again.proofs.Sources.{before-end}
-use Rattle.hare_again.proofs.PiecesAgain.{way_here}
-use Rattle.hare_again.proofs.LaidParts.{parts_laid, tokens_laid, placed_at, placed_behind, end_of_text, AreRead, parts-are, parts-text, parts-read, token-long}
-use Rattle.hare_again.proofs.ReadSources.{with_end, marks-unplaced, marks-placed, read-source, laid-tokens}
-use Rattle.hare_again.proofs.TextTokens.{parts-have-tokens, stands-at, at_place}
-use Rattle.hare_again.proofs.Utf8.{source-utf8, written-utf8}
-use Rattle.hare_again.proofs.Placeless.{AreLike, files-like, all-like}
+use Rattle.hare_again.proofs.LaidAsBefore.Comments.{comments-stay}
+use Rattle.hare_again.proofs.LaidAsBefore.Files.{sources-stay}
+use Rattle.hare_again.proofs.ReadBack.Reading.{texts-are-read}
+use Rattle.hare_again.proofs.LaidAsBefore.Sources.{before-end}
+use Rattle.hare_again.proofs.LaidAsBefore.PiecesAgain.{way_here}
+use Rattle.hare_again.proofs.PartsOfLayouts.LaidParts.{parts_laid, tokens_laid, placed_at, placed_behind, end_of_text, AreRead, parts-are}
+use Rattle.hare_again.proofs.PartsOfLayouts.LaidParts.{parts-text, parts-read, token-long}
+use Rattle.hare_again.proofs.ReadBack.ReadSources.{with_end, marks-unplaced, marks-placed, read-source, laid-tokens}
+use Rattle.hare_again.proofs.ReadBack.TextTokens.{parts-have-tokens, stands-at, at_place}
+use Rattle.hare_again.proofs.WholeLayouts.Utf8.{source-utf8, written-utf8}
+use Rattle.hare_again.proofs.WholeLayouts.Placeless.{AreLike, files-like, all-like}
 
 true-false : {A : Type 0} → true ≡ false → A
 true-false h = cc

@@ -18,11 +18,11 @@ use Rattle.hare_ways.specs.declared.way.Way.{Way}
 use Rattle.hare_commas.specs.Commas.{IsPlainMark, asks, AreMarks, comma_tokens, tokens_with}
 use Rattle.hare_lines.specs.Read.{Seen, seen_from, seen_piece, body_of, before_blanks, trimmed, is_quoted, is_string}
 use Rattle.hare_lines.specs.Gaps.{placed, next_way, next_is_string, without_comma}
-use Rattle.hare_again.proofs.Gaps.{gaps-are-read}
-use Rattle.hare_again.proofs.PiecesAgain.{way_here}
-use Rattle.hare_again.proofs.Sources.{piece-text, rest-text, rest-at, string-is-proper, joined-begins, end-begins}
-use Rattle.hare_again.proofs.Standing.{IsToken}
-use Rattle.hare_again.proofs.LaidParts.{IsRemark, FitsNext, ways_behind, AreRead, tokens_laid}
+use Rattle.hare_again.proofs.PartsOfLayouts.Gaps.{gaps-are-read}
+use Rattle.hare_again.proofs.LaidAsBefore.PiecesAgain.{way_here}
+use Rattle.hare_again.proofs.LaidAsBefore.Sources.{piece-text, rest-text, rest-at, string-is-proper, joined-begins, end-begins}
+use Rattle.hare_again.proofs.PartsOfLayouts.Standing.{IsToken}
+use Rattle.hare_again.proofs.PartsOfLayouts.LaidParts.{IsRemark, FitsNext, ways_behind, AreRead, tokens_laid}
 
 true-false : {A : Type 0} → true ≡ false → A
 true-false h = cc
