@@ -1,2 +1,2 @@
 pub mod SeenTokens
-pub mod Stack
+pub mod StackTop

@@ -38,7 +38,7 @@ impl<T: Drop> Stack<T> {
     }
 
     /// The top; none where there is nothing.
-    #[tactic(auto, using(crate::proofs::Stack::Tops::top_of_reverse))]
+    #[tactic(auto, using(crate::proofs::StackTop::Tops::top_of_reverse))]
     pub fn top(&self) -> Option<&T>
         ensures { MatchOption result (self.now ≡ []) (λ item. (rest : List T) × (self.now ≡ item.now ∷ rest)) }
     {
@@ -55,7 +55,7 @@ impl<T: Drop> Stack<T> {
     }
 
     /// Puts an item in the place of the top; nothing changes where there is none.
-    #[tactic(auto, using(crate::proofs::Stack::Tops::replaced_top))]
+    #[tactic(auto, using(crate::proofs::StackTop::Tops::replaced_top))]
     pub(crate) fn replace_top(&mut self, item: T)
         ensures { (top : T) (rest : List T) → self.old ≡ top ∷ rest → self.new ≡ item ∷ rest }
     {

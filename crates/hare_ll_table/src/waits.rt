@@ -27,7 +27,7 @@ pub fn push_waits(stack: &mut Stack<Wait>, waits: &[Wait]) -> Result<(), AllocEr
 
 /// Takes the symbol that is waited for next; none where nothing is. What is left of a form stays on top of the stack, in place of the
 /// form, so that no memory is asked for.
-#[tactic(auto, using(crate::proofs::Stack::Rests::one_goes))]
+#[tactic(auto, using(crate::proofs::StackTop::Rests::one_goes))]
 pub fn next_symbol(stack: &mut Stack<Wait>) -> Result<Option<Symbol>, AllocError>
     ensures { IfOk result (λ next. MatchOption next ((waited stack.old ≡ []) × (waited stack.new ≡ []))
         (λ s. waited stack.old ≡ s ∷ waited stack.new)) }
@@ -45,7 +45,7 @@ pub fn next_symbol(stack: &mut Stack<Wait>) -> Result<Option<Symbol>, AllocError
 }
 
 /// The next symbol of what is left of a form, which is the top of the stack. What is left behind the symbol takes its place.
-#[tactic(auto, using(crate::proofs::Stack::Rests::rest_goes, crate::proofs::Stack::Rests::rest_ends))]
+#[tactic(auto, using(crate::proofs::StackTop::Rests::rest_goes, crate::proofs::StackTop::Rests::rest_ends))]
 fn next_of_form(stack: &mut Stack<Wait>, from: usize, kind: Kind) -> Symbol
     requires { (rest : List wait.Wait) × (stack.old ≡ Wait.Rest from kind ∷ rest) }
     ensures { waited stack.old ≡ result ∷ waited stack.new }

@@ -3,7 +3,7 @@ use Rattle.std.proofs.Common.{◌≡◌, ℕ, ◌-◌, List, [], ◌∷◌, ◌+
 use Rattle.std.specs.Prelude.{Some, None, slice_get}
 use Rattle.hare_nesting.specs.Marks.{Mark, last_mark, but_last_mark}
 use Rattle.hare_nesting.specs.Gauge.{deep_last}
-use Rattle.hare_ll_table.proofs.Stack.Tops.{split_last, no_last}
+use Rattle.hare_ll_table.proofs.StackTop.Tops.{split_last, no_last}
 
 pub last_mark_append : (ms : List Mark) (m : Mark) → last_mark (ms ++ m ∷ []) ≡ m ∷ []
 last_mark_append [] m = refl
