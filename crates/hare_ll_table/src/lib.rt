@@ -14,7 +14,7 @@ mod waits;
 
 pub use answer::Answer;
 pub use class::class_of;
-pub use row::{Action, Row, RowBuffer, Wait, has_sign, of, part};
+pub use row::{Row, RowBuffer, Wait, has_sign, of, part};
 pub use rows::row_at;
 pub use spare::Spare;
 pub use stack::Stack;

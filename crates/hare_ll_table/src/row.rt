@@ -30,7 +30,7 @@ pub enum Row<'a> {
 
 /// What a rule does with the token.
 #[derive(Clone, Copy, Debug, PartialEq, Eq)]
-pub enum Action {
+pub(crate) enum Action {
     /// The token cannot stand here.
     Faults,
     /// The rule is over, and the token is looked at again.
@@ -43,11 +43,11 @@ pub enum Action {
 #[derive(Drop)]
 pub struct RowBuffer {
     /// What is done with the token.
-    pub action: Action,
+    pub(crate) action: Action,
     /// The changes, where there is no fault.
-    pub changes: Vec<Change>,
+    pub(crate) changes: Vec<Change>,
     /// What is waited for where the token is used.
-    pub waits: Vec<Wait>,
+    pub(crate) waits: Vec<Wait>,
 }
 
 impl RowBuffer {
