@@ -1,5 +1,6 @@
 -- The declarations of files, numbered from a first one on: where they stand, and that they stand one behind another.
-use Rattle.std.proofs.Common.{◌≡◌, ◌⊎◌, inl, inr, ℕ, ◌+◌, ◌<◌, List, [], ◌∷◌, Bool, true, false, ◌&&◌, ◌||◌, ◌==◌, length, slice_get, Some, refl, sym, ap, ◌∙◌, subst, suc, arith}
+use Rattle.std.proofs.Common.{◌≡◌, ◌⊎◌, inl, inr, ℕ, ◌+◌, ◌<◌, List, [], ◌∷◌, Bool, true, false, ◌&&◌, ◌||◌, ◌==◌, length, slice_get, Some}
+use Rattle.std.proofs.Common.{refl, sym, ap, ◌∙◌, subst, suc, arith}
 use Rattle.std.specs.Prelude.{Contains, nat_lt}
 use Rattle.std.specs.List.{flat_map}
 use Rattle.std.proofs.lemmas.Bool.{lt-ltb}
@@ -17,9 +18,10 @@ use Rattle.hare_modules.specs.Uses.{place_of}
 use Rattle.hare_graph.proofs.Elements.{Contains-none, Contains-here}
 use Rattle.hare_depends.proofs.ListLemmas.{Contains-right, Contains-either}
 use Rattle.hare_names.specs.Answers.{IsFileOf}
+use Rattle.hare_names.proofs.OverTokens.Ascending.{Up}
+use Rattle.hare_names.proofs.OverTokens.Standing.{Standing, standing}
 use Rattle.hare_whole.specs.Programs.{StandsBefore}
 use Rattle.hare_filed.proofs.ListLemmas.{Precedes, precedes-append}
-use Rattle.hare_filed.proofs.TokenLemmas.{Up, Standing, standing}
 use Rattle.hare_filed.proofs.HeadLemmas.{is_shaped-among, decls-in-file, roots, roots-ascend}
 
 -- these are the files from this number on

@@ -1,5 +1,6 @@
 -- Each node of a declaration stands in the file of the declaration, and declarations stand one behind another.
-use Rattle.std.proofs.Common.{◌≡◌, ◌⊎◌, inl, inr, ℕ, ◌+◌, ◌<◌, ◌≤◌, List, [], ◌∷◌, Bool, true, false, length, refl, sym, ap, ◌∙◌, subst, suc, add-zero, arith, if◌then◌else◌}
+use Rattle.std.proofs.Common.{◌≡◌, ◌⊎◌, inl, inr, ℕ, ◌+◌, ◌<◌, ◌≤◌, List, [], ◌∷◌, Bool, true, false, length, refl, sym, ap, ◌∙◌, subst}
+use Rattle.std.proofs.Common.{suc, add-zero, arith, if◌then◌else◌}
 use Rattle.std.specs.Prelude.{Contains}
 use Rattle.std.specs.List.{list_all}
 use Rattle.std.proofs.lemmas.Bool.{and_parts}
@@ -21,8 +22,8 @@ use Rattle.hare_modules.specs.Uses.{place_of as place_of_node}
 use Rattle.hare_graph.proofs.Elements.{Contains-none, Contains-cases}
 use Rattle.hare_depends.proofs.ListLemmas.{Contains-either}
 use Rattle.hare_names.proofs.TurnLemmas.{InTurn, pieces_turns}
+use Rattle.hare_names.proofs.OverTokens.Ascending.{Up, file-place_of, is_before-place_of}
 use Rattle.hare_filed.proofs.ListLemmas.{Precedes}
-use Rattle.hare_filed.proofs.TokenLemmas.{Up, file-place_of, is_before-place_of}
 
 -- ---- places of heads
 

@@ -1,5 +1,4 @@
 pub mod ListLemmas
-mod TokenLemmas
 mod HeadLemmas
 mod FileLemmas
 mod NameLemmas

@@ -11,6 +11,7 @@ pub mod RisingLemmas
 pub mod ListedLemmas
 pub mod MeaningLemmas
 pub mod TurnLemmas
+pub mod OverTokens
 pub mod OrderLemmas
 pub mod SomethingLemmas
 pub mod ResolveLemmas

@@ -1,9 +1,9 @@
 -- The paths of a file stand in it, in the order in which they are listed.
-use Rattle.std.proofs.Common.{◌≡◌, ◌⊎◌, inl, inr, ℕ, ◌+◌, ◌<◌, ◌≤◌, List, [], ◌∷◌, ◌++◌, Bool, true, false, ◌&&◌, ◌||◌, ◌==◌, map, length, get_or, refl, sym, ap, ◌∙◌, subst, suc, zero, add-zero, true≢false, arith, if◌then◌else◌}
+use Rattle.std.proofs.Common.{◌≡◌, ◌⊎◌, inl, inr, ℕ, ◌+◌, ◌<◌, ◌≤◌, List, [], ◌∷◌, ◌++◌, Bool, true, false, ◌&&◌, ◌||◌, map, length, refl}
+use Rattle.std.proofs.Common.{sym, ap, ◌∙◌, subst, suc, add-zero, true≢false, arith, if◌then◌else◌}
 use Rattle.std.specs.Prelude.{Contains}
-use Rattle.std.specs.List.{flat_map, list_all}
-use Rattle.std.proofs.lemmas.Bool.{and_parts, eqb-true}
-use Rattle.std.proofs.lemmas.List.{length-append, length-map}
+use Rattle.std.specs.List.{flat_map}
+use Rattle.std.proofs.lemmas.Bool.{and_parts}
 use Rattle.hare_tree.specs.declared.kind.Kind.{Kind}
 use Rattle.hare_tree.specs.declared.kind.Kind.TheVariants as ki
 use Rattle.hare_tree.specs.declared.place.Place.{Place}
@@ -17,124 +17,23 @@ use Rattle.hare_tree.specs.declared.tree.FileTree.{FileTree}
 use Rattle.hare_tree.specs.Node.{Head, Node, Nodes, branch, none, more, nodes_of}
 use Rattle.hare_tree.specs.Forms.{form_of, expr}
 use Rattle.hare_tree.specs.Levels.{level}
-use Rattle.hare_tree.specs.declared.token.TokenKind.TheVariants as tk
-use Rattle.hare_tree.specs.Spell.{Spelled, start_of, spell, spells, spell_all, spell_file, word_token, pieces_tokens}
-use Rattle.hare_tree.specs.Shape.{is_none, is_shaped, is_shaped_file, are_kids, kid_pieces}
-use Rattle.hare_tree.specs.Depth.{begins, begins_led, first_number, numbers_behind, place_in, is_node, is_operator, is_shallow}
-use Rattle.hare_tree.specs.Grammar.{place_of, joined, joined_to, is_proper_string, string_at, unplaced, HasPlaces, HavePlaces}
-use Rattle.hare_lex.specs.Order.{is_before, AreOfFile, AreInOrder}
-use Rattle.hare_prefixes.proofs.Outcomes.Moved.{side_moved}
+use Rattle.hare_tree.specs.Spell.{Spelled, start_of, spell, spells, pieces_tokens}
+use Rattle.hare_tree.specs.Shape.{is_none, is_shaped, are_kids, kid_pieces}
+use Rattle.hare_tree.specs.Depth.{begins, begins_led, first_number, numbers_behind, place_in, is_node, is_operator}
+use Rattle.hare_tree.specs.Grammar.{place_of, HasPlaces, HavePlaces}
+use Rattle.hare_lex.specs.Order.{is_before}
 use Rattle.hare_nesting.proofs.ByTheLetter.FormKids.{has_form, have_forms, kids_have_forms, all_have_forms, node_some}
 use Rattle.hare_modules.specs.Uses.{place_of as place_of_node}
 use Rattle.hare_graph.proofs.Elements.{Contains-none, Contains-cases, Contains-here, Contains-behind}
 use Rattle.hare_names.specs.Scopes.{Scopes, with_locals, is_binding, is_for_each, bindings_in, bound_by, bound_itself}
-use Rattle.hare_names.specs.Paths.{Path, path_of, is_type_path, is_value_path, before_kids, scopes_within, paths_in, paths_among, paths_of_loop, paths_of}
+use Rattle.hare_names.specs.Paths.{Path, path_of, is_type_path, is_value_path, before_kids, scopes_within, paths_in, paths_among}
+use Rattle.hare_names.specs.Paths.{paths_of_loop, paths_of}
 use Rattle.hare_names.specs.Rises.{Rises, IsOrdered}
 use Rattle.hare_names.specs.Answers.{IsFileOf}
 use Rattle.hare_names.specs.Bindings.{bindings_of, bindings_of_all, Ascend, BindingsAscend}
-use Rattle.hare_names.proofs.TurnLemmas.{InTurn, wider, pieces_turns, side_turns}
-
--- ---- tokens in their order
-
--- the tokens are of the file, and each stands before those behind it
-abbrev Up : ℕ → List Token → Type 0
-Up f [] = Unit {0}
-Up f (t ∷ ts) = (t.place.file ≡ f) × ((u : Token) → Contains ts u → is_before t.place u.place ≡ true) × Up f ts
-
-record At (ts : List Token) (u : Token) : Type 0 where
-  number : ℕ
-  within : number < length ts
-  is : (d : Token) → get_or ts number d ≡ u
-
-contained-at : (ts : List Token) (u : Token) → Contains ts u → At ts u
-contained-at [] u c = absurd (Contains-none u c)
-contained-at (t ∷ ts) u c = by (λ d. contained-at ts u d) (Contains-cases t u ts c)
-  where
-    by : (Contains ts u → At ts u) → (t ≡ u) ⊎ Contains ts u → At (t ∷ ts) u
-    by go (inl e) = record { number = 0; within = omega arith; is = λ d. e }
-    by go (inr c) = let a = go c in let l : a.number < length ts =
-        a.within in record { number = suc a.number; within = omega arith; is = a.is }
-
-up-from : (f : ℕ) (ts : List Token) → AreOfFile f ts →
-    ((i j : ℕ) (d : Token) → i < j → j < length ts → is_before (get_or ts i d).place (get_or ts j d).place ≡ true) → Up f ts
-up-from f [] o a = tt
-up-from f (t ∷ ts) o a =
-    let p = and_parts (t.place.file == f) (list_all (λ u. u.place.file == f) ts) o in
-    (eqb-true t.place.file f p.0, first, up-from f ts p.1 (λ i j d l k. a (suc i) (suc j) d (omega arith) (omega arith)))
-  where
-    first : (u : Token) → Contains ts u → is_before t.place u.place ≡ true
-    first u c =
-        let at = contained-at ts u c in
-        let l : at.number < length ts = at.within in
-        subst (λ v. is_before t.place v.place ≡ true) (at.is t) (a 0 (suc at.number) t (omega arith) (omega arith))
-
--- a joined token stands where one of the tokens does
-joined-place : (ts : List Token) (u : Token) → Contains (joined ts) u → (v : Token) × Contains ts v × (v.place ≡ u.place)
-joined-place [] u c = absurd (Contains-none u c)
-joined-place (t ∷ ts) u c = by (joined ts) (λ x. joined-place ts x) c
-  where
-    behind : (x : Token) → ((v : Token) × Contains ts v × (v.place ≡ x.place)) → (v : Token) × Contains (t ∷ ts) v × (v.place ≡ x.place)
-    behind x h = (h.0, Contains-behind t h.0 ts h.1, h.2)
-
-    by : (js : List Token) → ((x : Token) → Contains js x → (v : Token) × Contains ts v × (v.place ≡ x.place)) →
-        Contains (joined_to t js) u → (v : Token) × Contains (t ∷ ts) v × (v.place ≡ u.place)
-    by [] go d = by-first (Contains-cases t u [] d)
-      where
-        by-first : (t ≡ u) ⊎ Contains [] u → (v : Token) × Contains (t ∷ ts) v × (v.place ≡ u.place)
-        by-first (inl e) = (t, Contains-here t ts, ap (λ x. x.place) e)
-        by-first (inr e) = absurd (Contains-none u e)
-    by (j ∷ js) go d = by-strings (is_proper_string t) (is_proper_string j) d
-      where
-        own : (x : Token) → x.place ≡ t.place → (x ≡ u) ⊎ Contains js u → (v : Token) × Contains (t ∷ ts) v × (v.place ≡ u.place)
-        own x e (inl h) = (t, Contains-here t ts, sym e ∙ ap (λ y. y.place) h)
-        own x e (inr h) = behind u (go u (Contains-behind j u js h))
-
-        apart : (t ≡ u) ⊎ Contains (j ∷ js) u → (v : Token) × Contains (t ∷ ts) v × (v.place ≡ u.place)
-        apart (inl h) = (t, Contains-here t ts, ap (λ y. y.place) h)
-        apart (inr h) = behind u (go u h)
-
-        by-strings : (a b : Bool) →
-            Contains (if a then (if b then string_at t.place (t.text ++ j.text) ∷ js else t ∷ j ∷ js) else t ∷ j ∷ js) u →
-            (v : Token) × Contains (t ∷ ts) v × (v.place ≡ u.place)
-        by-strings true true e = own (string_at t.place (t.text ++ j.text)) refl
-            (Contains-cases (string_at t.place (t.text ++ j.text)) u js e)
-        by-strings true false e = apart (Contains-cases t u (j ∷ js) e)
-        by-strings false b e = apart (Contains-cases t u (j ∷ js) e)
-
-joined-up : (f : ℕ) (ts : List Token) → Up f ts → Up f (joined ts)
-joined-up f [] h = tt
-joined-up f (t ∷ ts) h = by (joined ts) (joined-up f ts h.2) later
-  where
-    later : (u : Token) → Contains (joined ts) u → is_before t.place u.place ≡ true
-    later u c = let p = joined-place ts u c in subst (λ x. is_before t.place x ≡ true) p.2 (h.1 p.0 p.1)
-
-    by : (js : List Token) → Up f js → ((u : Token) → Contains js u → is_before t.place u.place ≡ true) → Up f (joined_to t js)
-    by [] u l = (h.0, (λ v c. absurd (Contains-none v c)), tt)
-    by (j ∷ js) u l = by-strings (is_proper_string t) (is_proper_string j)
-      where
-        by-strings : (a b : Bool) → Up f (if a then (if b then string_at t.place (t.text ++ j.text) ∷ js else t ∷ j ∷ js) else t ∷ j ∷ js)
-        by-strings true true = (h.0, (λ v c. l v (Contains-behind j v js c)), u.2)
-        by-strings true false = (h.0, l, u)
-        by-strings false b = (h.0, l, u)
-
--- ---- places by numbers
-
-there : (f : ℕ) (ts : List Token) (k : ℕ) → Up f ts → k < length ts → (u : Token) × Contains ts u × (place_of ts k ≡ u.place)
-there f [] k h l = absurd (omega arith)
-there f (t ∷ ts) zero h l = (t, Contains-here t ts, refl)
-there f (t ∷ ts) (suc k) h l = let p = there f ts k h.2 (omega arith) in (p.0, Contains-behind t p.0 ts p.1, p.2)
-
-of-file : (f : ℕ) (ts : List Token) (k : ℕ) → Up f ts → k < length ts → (place_of ts k).file ≡ f
-of-file f [] k h l = absurd (omega arith)
-of-file f (t ∷ ts) zero h l = h.0
-of-file f (t ∷ ts) (suc k) h l = of-file f ts k h.2 (omega arith)
-
-before : (f : ℕ) (ts : List Token) (j k : ℕ) → Up f ts → j < k → k < length ts → is_before (place_of ts j) (place_of ts k) ≡ true
-before f [] j k h l m = absurd (omega arith)
-before f (t ∷ ts) j zero h l m = absurd (omega arith)
-before f (t ∷ ts) zero (suc k) h l m = let p = there f ts k h.2 (omega arith) in subst (λ x. is_before t.place x ≡ true) (sym p.2)
-    (h.1 p.0 p.1)
-before f (t ∷ ts) (suc j) (suc k) h l m = before f ts j k h.2 (omega arith) (omega arith)
+use Rattle.hare_names.proofs.TurnLemmas.{InTurn, wider, pieces_turns}
+use Rattle.hare_names.proofs.OverTokens.Ascending.{Up, file-place_of, is_before-place_of}
+use Rattle.hare_names.proofs.OverTokens.Standing.{Standing, standing}
 
 -- ---- paths by numbers
 
@@ -190,7 +89,7 @@ module _ {A : Type 0} (place : A → Place) where
   stand-rises f ws low high (p ∷ ps) u l s = (
     (λ q c. (let n = number-of ws (suc s.0) high ps q s.3 c in let a : suc s.0 ≤ n.number = n.least in let b : n.number < high = n.most in
         subst (λ x. is_before x (place q) ≡ true) (sym s.2)
-        (subst (λ x. is_before (place_of ws s.0) x ≡ true) (sym n.place_is) (before f ws s.0 n.number u (omega arith) (omega arith))))),
+        (subst (λ x. is_before (place_of ws s.0) x ≡ true) (sym n.place_is) (is_before-place_of f ws s.0 n.number u (omega arith) (omega arith))))),
     stand-rises f ws (suc s.0) high ps u l s.3,
   )
 
@@ -446,79 +345,24 @@ ascends (n ∷ ns) a = ((λ q c. by q (among ns q c)), ascends ns a.1)
     by : (q : Place) → ((m : Node) × Contains ns m × (node_place m ≡ q)) → is_before (node_place n) q ≡ true
     by q m = subst (λ x. is_before (node_place n) x ≡ true) m.2 (a.0 m.0 m.1)
 
--- how many tokens trees have does not rest on the file
-length-moved : (f : ℕ) (ts : List Node) → length (spell_all f ts) ≡ length (spell_all 0 ts)
-length-moved f ts = sym (length-map (spell_all f ts) unplaced) ∙ ap length (side_moved f (nodes_of ts))
-
--- what is known of the tokens of a file and of its declarations
-record Tokens (number : ℕ) (tree : FileTree) : Type 0 where
-  ws : List Token
-  up : Up number ws
-  first : ℕ
-  high : ℕ
-  turns : InTurn first high (begins_led le.Nothing first (spells 0 (nodes_of tree.decls))) (spells 0 (nodes_of tree.decls))
-  forms : have_forms (nodes_of tree.decls) ≡ true
-  placed : HavePlaces tree.file ws (begins_led le.Nothing first (spells 0 (nodes_of tree.decls))) (nodes_of tree.decls)
-  enough : high ≤ length ws
-
-tokens-of : (number : ℕ) (tree : FileTree) → IsFileOf number tree → Tokens number tree
-tokens-of number tree h = record {
-  ws = ws;
-  up = up;
-  first = first;
-  high = high;
-  turns = side_turns first
-      (spells 0 (nodes_of tree.decls));
-  forms = all_have_forms so.Decl tree.decls shaped;
-  placed = h.stands.placed.decls;
-  enough = enough;
-}
-  where
-    ws : List Token
-    ws = joined h.tokens
-
-    first : ℕ
-    first = length (spell_all 0 tree.uses)
-
-    high : ℕ
-    high = first + length (spell_all 0 tree.decls)
-
-    up : Up number ws
-    up =
-        let o = subst (λ f. AreInOrder f h.tokens) h.file_is h.stands.in_order in
-        joined-up number h.tokens (up-from number h.tokens o.of_file (λ i j d l k. o.ascend i j d l k))
-
-    shaped : list_all (is_shaped so.Decl) tree.decls ≡ true
-    shaped =
-        let a = and_parts (is_shaped_file tree && list_all is_shallow tree.uses) (list_all is_shallow tree.decls) h.fits in
-        let b = and_parts (is_shaped_file tree) (list_all is_shallow tree.uses) a.0 in
-        (and_parts (list_all (is_shaped so.Use) tree.uses) (list_all (is_shaped so.Decl) tree.decls) b.0).1
-
-    enough : high ≤ length ws
-    enough =
-        let all : length (spell_file tree) ≤ length ws = h.enough in
-        let a = length-append (spell_all tree.file tree.uses) (spell_all tree.file tree.decls ++ end ∷ []) in
-        let b = length-append (spell_all tree.file tree.decls) (end ∷ []) in
-        omega (arith, all, a, b, length-moved tree.file tree.uses, length-moved tree.file tree.decls)
-      where
-        end : Token
-        end = word_token tree.file tk.End []
-
 pub ordered : (number : ℕ) (tree : FileTree) → IsFileOf number tree → IsOrdered number tree
 ordered number tree h = record {
   of_file = λ p c. (let n = number-of path_place k.ws k.first k.high
-      (flat_map paths_of tree.decls) p stands c in let m : n.number < k.high = n.most in let l : k.high ≤ length k.ws = k.enough in ap
-      (λ x. x.file) n.place_is ∙ of-file number k.ws n.number k.up (omega arith));
+      (flat_map paths_of tree.decls) p stands c in let m : n.number < k.high = n.most in let l : k.high < length k.ws = k.enough in ap
+      (λ x. x.file) n.place_is ∙ file-place_of number k.ws n.number k.up (omega arith));
   rises = paths-rise (flat_map paths_of tree.decls) (stand-rises path_place number k.ws k.first k.high
-      (flat_map paths_of tree.decls) k.up k.enough stands);
+      (flat_map paths_of tree.decls) k.up enough stands);
 }
   where
-    k : Tokens number tree
-    k = tokens-of number tree h
+    k : Standing number tree
+    k = standing number tree h
+
+    enough : k.high ≤ length k.ws
+    enough = let l : k.high < length k.ws = k.enough in omega arith
 
     stands : StandIn path_place k.ws k.first k.high (flat_map paths_of tree.decls)
     stands = stand-decls tree.file k.ws k.first k.high
-        (begins_led le.Nothing k.first (spells 0 (nodes_of tree.decls))) tree.decls k.turns k.forms k.placed
+        (begins_led le.Nothing k.first (spells 0 (nodes_of tree.decls))) tree.decls k.turns (all_have_forms so.Decl tree.decls k.shaped) k.placed
 
     paths-rise : (ps : List Path) → Ascending path_place ps → Rises ps
     paths-rise [] a = tt
@@ -526,10 +370,10 @@ ordered number tree h = record {
 
 pub bindings_ascend : BindingsAscend
 bindings_ascend number tree t h c =
-    let k = tokens-of number tree h in
+    let k = standing number tree h in
     let b = decl-begins tree.file k.ws k.first k.high (begins_led le.Nothing k.first (spells 0 (nodes_of tree.decls))) tree.decls t
-    k.turns k.forms k.placed c in
+    k.turns (all_have_forms so.Decl tree.decls k.shaped) k.placed c in
     let within : b.at + length (spell 0 t) ≤ k.high = b.within in
-    let enough : k.high ≤ length k.ws = k.enough in
+    let enough : k.high < length k.ws = k.enough in
     ascends (bindings_of t) (stand-rises node_place number k.ws b.at (b.at + length (spell 0 t)) (bindings_of t) k.up (omega arith)
     (bindings-stand tree.file k.ws b.at t b.has b.placed))
