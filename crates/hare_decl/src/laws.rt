@@ -3,7 +3,7 @@
 ghost use Rattle.hare_decl.specs.Trees.{SourcesFit, SourcesStandOverTokens, SourcesHaveFewNodes, SourcesHaveFewTexts};
 
 /// The tree of a file is in the language. It stands over the tokens of the file: they are all of the file, each stands before those behind
-/// it, and the tree has its places there.
+/// it, the tree has its places there, and they are, joined, at least as many as it spells.
 pub fn law_trees_of_sources()
     ensures fit { SourcesFit }
     ensures stand { SourcesStandOverTokens }

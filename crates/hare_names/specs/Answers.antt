@@ -1,5 +1,5 @@
 -- What `resolve` asks for, and what it answers.
-use Rattle.std.specs.Prelude.{◌≡◌, ℕ, ◌<◌, ◌≤◌, ◌-◌, ◌^◌, List, true, length, sum_by, slice_get, Option, Some, None}
+use Rattle.std.specs.Prelude.{◌≡◌, ℕ, ◌<◌, ◌-◌, ◌^◌, List, true, length, sum_by, slice_get, Option, Some, None}
 use Rattle.hare_tree.specs.declared.place.Place.{Place}
 use Rattle.hare_tree.specs.declared.place.Fault.{Fault}
 use Rattle.hare_tree.specs.declared.stop.Stop.{Stop}
@@ -8,23 +8,19 @@ use Rattle.hare_tree.specs.declared.token.Meaning.{Meaning}
 use Rattle.hare_tree.specs.declared.token.Meaning.TheVariants as me
 use Rattle.hare_tree.specs.declared.token.Token.{Token}
 use Rattle.hare_tree.specs.declared.tree.FileTree.{FileTree}
-use Rattle.hare_tree.specs.Spell.{spell_file}
 use Rattle.hare_tree.specs.Depth.{fits_file}
-use Rattle.hare_tree.specs.Grammar.{joined}
 use Rattle.hare_lex.specs.Order.{StandsOver}
 use Rattle.hare_modules.specs.Order.{IsFirst}
 use Rattle.hare_modules.specs.Modules.{Source}
 use Rattle.hare_names.specs.Tables.{meaning_at}
 use Rattle.hare_names.specs.Violations.{IsViolation, AreFewBindings}
 
--- The tree is that of the file with this number: it is in the language, and stands over tokens of the file. They are at least as many as
--- those that it spells, since past the last of them there is no place to stand at.
+-- The tree is that of the file with this number: it is in the language, and stands over tokens of the file.
 pub record IsFileOf (number : ℕ) (tree : FileTree) : Type 0 where
   pub file_is : tree.file ≡ number
   pub fits : fits_file tree ≡ true
   pub tokens : List Token
   pub stands : StandsOver tokens tree
-  pub enough : length (spell_file tree) ≤ length (joined tokens)
 
 -- one tree for each path, each that of the file with its number, and numbers enough for declarations and bindings
 pub record AreFiles (paths : List (List ℕ)) (ts : List FileTree) : Type 0 where

@@ -1,17 +1,14 @@
 -- Files that are read one after another, and what the rules of names ask of their trees.
 use Rattle.std.specs.Prelude.{IsErrAnd}
-use Rattle.std.proofs.Common.{◌≡◌, Result, Ok, Err, IfErr, ℕ, ◌+◌, ◌≤◌, List, [], ◌∷◌, ◌++◌, length, take, drop, slice_get, Some, refl, sym, ap, ◌∙◌, subst, inl, inr, suc, zero, add-one, add_assoc, arith}
-use Rattle.std.proofs.lemmas.List.{length-map}
+use Rattle.std.proofs.Common.{◌≡◌, Result, Ok, Err, IfErr, ℕ, ◌+◌, ◌≤◌, List, [], ◌∷◌, ◌++◌, length, take, drop, slice_get, Some, refl, sym}
+use Rattle.std.proofs.Common.{ap, ◌∙◌, subst, inl, inr, suc, zero, add-one, add_assoc, arith}
 use Rattle.std.proofs.lemmas.List.Sums.{sum_by-cons, sum_by_push}
 use Rattle.hare_tree.specs.declared.place.Fault.{Fault}
 use Rattle.hare_tree.specs.declared.stop.Stop.{Stop}
 use Rattle.hare_tree.specs.declared.stop.Stop.TheVariants as stop
 use Rattle.hare_tree.specs.declared.tree.FileTree.{FileTree}
-use Rattle.hare_tree.specs.Spell.{spell_file}
-use Rattle.hare_tree.specs.Grammar.{joined, unplaced, IsFileTree}
-use Rattle.hare_lex.specs.Order.{AreInOrder}
-use Rattle.hare_lex.proofs.Order.Ordered.{tokens_are_in_order}
 use Rattle.hare_decl.specs.Answers.{IsSource, Stops}
+use Rattle.hare_decl.proofs.SourceTrees.Sources.{sources_stand_over_tokens}
 use Rattle.hare_names.specs.Answers.{IsFileOf}
 use Rattle.hare_sources.specs.Files.{most_of_all, bytes_of, IsRead, IsFaultOfFile, AreReadFrom, IsFaultFrom, AreRead, IsFaultOfFiles}
 
@@ -152,24 +149,11 @@ stops-more P Q h stop.Memory k = tt
 
 -- ---- the trees of files
 
--- the tree of the bytes of a file stands over tokens of it, in their order
+-- the tree of the bytes of a file is that of the file
 pub file-of : (file : ℕ) (text : List ℕ) (t : FileTree) → IsSource file text t → IsFileOf file t
-file-of file text t h = record {
-  file_is = read.file_is;
-  fits = read.fits;
-  tokens = h.tokens;
-  stands = record {
-    in_order = subst (λ f. AreInOrder f h.tokens) (sym read.file_is) (tokens_are_in_order file text h.tokens h.are);
-    placed = read.placed;
-  };
-  enough = omega (arith, counted);
-}
-  where
-    read : IsFileTree file h.tokens t
-    read = h.file_is.read
-
-    counted : length (spell_file t) ≡ length (joined h.tokens)
-    counted = sym (length-map (spell_file t) unplaced) ∙ ap length read.spelled ∙ length-map (joined h.tokens) unplaced
+file-of file text t h =
+    let over = sources_stand_over_tokens file text t h in
+    record { file_is = h.file_is.read.file_is; fits = h.file_is.read.fits; tokens = over.0; stands = over.2 }
 
 pub files-of : (before file : ℕ) (ss : List (List ℕ)) (ts : List FileTree) → AreReadFrom before file ss ts → (k : ℕ) (t : FileTree) →
     slice_get ts k ≡ Some t → IsFileOf (file + k) t

@@ -19,11 +19,22 @@ use Rattle.hare_decl.specs.Trees.{SourcesFit, SourcesStandOverTokens, SourcesHav
 pub sources_fit : SourcesFit
 sources_fit file text tree s = s.file_is.read.fits
 
+-- a tree that is spelled by tokens spells as many as they are, joined
+spelled_joined : (spelled ts : List Token) → Spells spelled ts → length spelled ≡ length (joined ts)
+spelled_joined spelled ts e = sym (length-map spelled unplaced) ∙ ap length e ∙ length-map (joined ts) unplaced
+
 pub sources_stand_over_tokens : SourcesStandOverTokens
 sources_stand_over_tokens file text tree s =
-    let o = tokens_are_in_order file text s.tokens s.are in
-    let f = s.file_is.read.file_is in
-    (s.tokens, s.are, record { in_order = subst (λ n. AreInOrder n s.tokens) (sym f) o; placed = s.file_is.read.placed })
+    let read = s.file_is.read in
+    let o = tokens_are_in_order file text s.tokens s.are in (
+      s.tokens,
+      s.are,
+      record {
+        in_order = subst (λ n. AreInOrder n s.tokens) (sym read.file_is) o;
+        placed = read.placed;
+        enough = omega (arith, spelled_joined (spell_file tree) s.tokens read.spelled);
+      },
+    )
 
 -- ---- how many tokens the grammar sees
 
@@ -42,8 +53,7 @@ joined_length [] = omega arith
 joined_length (t ∷ ts) = omega (arith, joined_to_length t (joined ts), joined_length ts)
 
 spelled_length : (spelled ts : List Token) → Spells spelled ts → length spelled ≤ length ts
-spelled_length spelled ts e =
-    omega (arith, length-map spelled unplaced, length-map (joined ts) unplaced, ap length e, joined_length ts)
+spelled_length spelled ts e = omega (arith, spelled_joined spelled ts e, joined_length ts)
 
 pub sources_have_few_nodes : SourcesHaveFewNodes
 sources_have_few_nodes file text tree s =

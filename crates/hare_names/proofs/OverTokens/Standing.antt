@@ -70,7 +70,7 @@ standing number tree h = record {
 
     enough : high < length ws
     enough =
-        let all : length (spell_file tree) ≤ length ws = h.enough in
+        let all : length (spell_file tree) ≤ length ws = h.stands.enough in
         let a = length-append (spell_all tree.file tree.uses) (spell_all tree.file tree.decls ++ end ∷ []) in
         let b = length-append (spell_all tree.file tree.decls) (end ∷ []) in
         omega (arith, all, a, b, length-moved tree.file tree.uses, length-moved tree.file tree.decls)
