@@ -34,7 +34,6 @@ pub(crate) fn type_of(
 
 /// The types of the parts of a type, in their order.
 #[cycle(types)]
-#[tactic(auto, using(hare_tree::proofs::Sizes::Kids::kid_size))]
 fn types_of(alloc: Global, s: &mut TypeStore, names: &Names, kids: &Kids) -> Result<TypeIds>
     ensures within { IfOk result (λ is. AllBelow (length s.new.rows) is) }
     ensures grows { length s.old.rows ≤ length s.new.rows }

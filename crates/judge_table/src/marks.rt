@@ -41,7 +41,6 @@ fn typed(table: &mut Table, told: &Told, tree: &Tree) -> Result<Typed>
 
 /// The kids of a node of this kind, with what is told of them.
 #[cycle(marks)]
-#[tactic(auto, using(hare_tree::proofs::Sizes::Kids::kid_size))]
 pub(crate) fn typed_kids(
     table: &mut Table,
     told: &Told,

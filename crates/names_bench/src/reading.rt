@@ -69,7 +69,6 @@ fn places_of(alloc: Global, files: &Files2) -> Result<Vec<Place>> {
 
 /// Puts the places of the paths in these trees at the end.
 #[cycle(trees)]
-#[tactic(auto, using(hare_tree::proofs::Sizes::Kids::kid_size))]
 fn put_kids(places: &mut Vec<Place>, kids: &Kids) -> Result<()> {
     for i in 0..kids.len() {
         if let Some(kid) = kids.get(i) {

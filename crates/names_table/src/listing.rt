@@ -23,7 +23,6 @@ pub(crate) fn listing(alloc: Global, paths: &[Text], named: &Named) -> Result<St
 
 /// Writes what the paths in these trees mean.
 #[cycle(trees)]
-#[tactic(auto, using(hare_tree::proofs::Sizes::Kids::kid_size))]
 fn put_kids(out: &mut String, file: &[u8], names: &Names, kids: &Kids) -> Result<()> {
     for i in 0..kids.len() {
         if let Some(kid) = kids.get(i) {

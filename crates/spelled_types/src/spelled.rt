@@ -110,7 +110,6 @@ pub fn type_of(table: &mut Table, tree: &Tree) -> Result<TypeId>
 
 /// The types of the parts of a type, in their order.
 #[cycle(trees)]
-#[tactic(auto, using(hare_tree::proofs::Sizes::Kids::kid_size))]
 fn types_of(table: &mut Table, kids: &Kids) -> Result<TypeIds>
     ensures within { IfOk result (λ is. AllBelow (length table.new.store.rows) is) }
     ensures grows { length table.old.store.rows ≤ length table.new.store.rows }

@@ -15,7 +15,6 @@ pub(crate) fn listing(alloc: Global, file: &FileTree) -> Result<String> {
 
 /// Writes trees, with a blank in front of each.
 #[cycle(trees)]
-#[tactic(auto, using(hare_tree::proofs::Sizes::Kids::kid_size))]
 fn put_kids(out: &mut String, kids: &Kids) -> Result<()> {
     for i in 0..kids.len() {
         if let Some(kid) = kids.get(i) {

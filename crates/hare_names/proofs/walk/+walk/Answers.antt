@@ -1,7 +1,6 @@
 use Rattle.std.proofs.Common.{◌≡◌, ◌<◌, ◌≤◌, ◌+◌, ◌^◌, ◌++◌, append_assoc, ap, sym, ◌∙◌, arith}
 use Rattle.hare_tree.specs.Node.{nodes_of, size_of, sizes_of}
 use Rattle.hare_tree.specs.Judged.{nodes_from}
-use Rattle.hare_tree.proofs.Sizes.Kids.{kid_size}
 use Rattle.hare_tree.proofs.TreeKids.KidsFrom.{nodes_from-get, nodes_from-past}
 use Rattle.hare_directory.specs.Seen.{tables_of}
 use Rattle.hare_names.specs.Scopes.{bindings_in, bindings_among, bound_by, bound_among, bound_itself}
@@ -13,7 +12,7 @@ use Rattle.hare_names.proofs.walk.+walk.Goals as goal
 pub walk_kids-walk-requires : goal.walk_kids-walk-requires
 walk_kids-walk-requires t c =
     let less : size_of c.in-Some.kid.now < sizes_of (nodes_of c.args.kids.now) =
-    kid_size c.args.kids.now c.loop-i.i c.in-Some.kid.now c.in-Some.ensures.found in
+    c.in-Some.ensures.smaller in
     let room : c.loop-i.behind + bindings_in c.in-Some.kid.now < 2 ^ 32 =
     walking-room _ _ _ _ _ _ _ c.in-Some.kid.now _ _ _ _
     (nodes_from-get c.args.kids.now c.loop-i.i c.in-Some.kid.now c.in-Some.ensures.found) c.requires c.loop-i.invariant.walking in
@@ -59,7 +58,7 @@ walk_kids-returns-clause-doubled t c = among-done c.loop-i.doubled.first _ _
 pub walk_loop-walk-requires : goal.walk_loop-walk-requires
 walk_loop-walk-requires t c =
     let less : size_of c.in-Some.binding.now < sizes_of (nodes_of c.args.kids.now) =
-    kid_size c.args.kids.now 0 c.in-Some.binding.now c.in-Some.ensures.found in
+    c.in-Some.ensures.smaller in
     let some : bindings_in c.in-Some.binding.now ≤ bindings_among (nodes_of c.args.kids.now) =
     counted-one c.args.kids.now c.in-Some.binding.now c.in-Some.ensures.found in
     (omega arith, omega arith)
@@ -84,7 +83,7 @@ walk_loop-returns-in_default-get-clause-doubled t c =
 pub walk_loop-walk-requires-2 : goal.walk_loop-walk-requires-2
 walk_loop-walk-requires-2 t c =
     let less : size_of c.in-Some-get.over.now < sizes_of (nodes_of c.args.kids.now) =
-    kid_size c.args.kids.now 1 c.in-Some-get.over.now c.in-Some-get.ensures.found in
+    c.in-Some-get.ensures.smaller in
     let kids = counted-two c.args.kids.now c.in-Some.binding.now c.in-Some-get.over.now
     (two-kids c.args.kids.now c.in-Some.binding.now c.in-Some-get.over.now c.in-Some.ensures.found c.in-Some-get.ensures.found) in
     let count : c.in_ok-behind.behind ≡ c.args.before + bindings_in c.in-Some.binding.now = c.in_ok-behind.ensures.count in

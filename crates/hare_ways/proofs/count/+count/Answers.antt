@@ -5,7 +5,6 @@ use Rattle.hare_tree.specs.Node.{head, kids_of, nodes_of, size_of, sizes_of}
 use Rattle.hare_tree.specs.Forms.{form_of}
 use Rattle.hare_tree.specs.Spell.{stands_alone}
 use Rattle.hare_tree.specs.Judged.{nodes_from}
-use Rattle.hare_tree.proofs.Sizes.Kids.{kid_size}
 use Rattle.hare_tree.proofs.Spelling.Spelled.{spell-pieces}
 use Rattle.hare_tree.proofs.TreeKids.KidsFrom.{nodes_from-get, nodes_from-one, nodes_from-past, kids_of-open}
 use Rattle.hare_ways.specs.Parts.{part_of, nodes_behind}
@@ -19,7 +18,7 @@ pub count_kid-count_tree-requires : goal.count_kid-count_tree-requires
 count_kid-count_tree-requires t c =
     let kid = c.in-Some.kid.now in
     let us = nodes_from c.args.i (nodes_of c.args.kids.now) in
-    let h : size_of kid < sizes_of (nodes_of c.args.kids.now) = kid_size c.args.kids.now c.args.i kid c.in-Some.ensures.found in
+    let h : size_of kid < sizes_of (nodes_of c.args.kids.now) = c.in-Some.ensures.smaller in
     let k : stands_alone (head kid).kind ≡ true =
     ap (λ u. stands_alone (head u).kind) (sym c.kid.view_is) ∙ sym c.stands_alone.ensures ∙ c.if-stands_alone.true in
     let one = one-here c.args.lead us kid _ (nodes_from-get c.args.kids.now c.args.i kid c.in-Some.ensures.found) in
@@ -29,7 +28,7 @@ pub count_kid-count_tree-requires-else-stands_alone : goal.count_kid-count_tree-
 count_kid-count_tree-requires-else-stands_alone t c =
     let kid = c.in-Some.kid.now in
     let us = nodes_from c.args.i (nodes_of c.args.kids.now) in
-    let h : size_of kid < sizes_of (nodes_of c.args.kids.now) = kid_size c.args.kids.now c.args.i kid c.in-Some.ensures.found in
+    let h : size_of kid < sizes_of (nodes_of c.args.kids.now) = c.in-Some.ensures.smaller in
     let k : stands_alone (head kid).kind ≡ false =
     ap (λ u. stands_alone (head u).kind) (sym c.kid.view_is) ∙ sym c.stands_alone.ensures ∙ c.if-stands_alone.false in
     let one = one-here c.args.lead us kid _ (nodes_from-get c.args.kids.now c.args.i kid c.in-Some.ensures.found) in

@@ -8,7 +8,6 @@ use Rattle.hare_tree.specs.Node.{head, kids_of, nodes_of, size_of, sizes_of}
 use Rattle.hare_tree.specs.Forms.{form_of}
 use Rattle.hare_tree.specs.Spell.{kids_spelled, stands_alone}
 use Rattle.hare_tree.specs.Judged.{nodes_from}
-use Rattle.hare_tree.proofs.Sizes.Kids.{kid_size}
 use Rattle.hare_tree.proofs.Spelling.Spelled.{drop-past}
 use Rattle.hare_tree.proofs.TreeKids.KidsFrom.{nodes_from-get, nodes_from-one, nodes_from-past, kids_of-open}
 use Rattle.hare_ways.specs.Breaks.{breaks_of}
@@ -30,7 +29,7 @@ use Rattle.hare_ways.proofs.walk.+walk.Goals as goal
 pub put_kid-put_led-requires : goal.put_kid-put_led-requires
 put_kid-put_led-requires t c =
     let kid = c.in-Some.kid.now in
-    let h : size_of kid < sizes_of (nodes_of c.args.kids.now) = kid_size c.args.kids.now c.args.i kid c.in-Some.ensures.found in
+    let h : size_of kid < sizes_of (nodes_of c.args.kids.now) = c.in-Some.ensures.smaller in
     let one = nodes_from-get c.args.kids.now c.args.i kid c.in-Some.ensures.found in
     let many = ap (λ us. length (first_ways c.args.comments.now c.args.stand.kind c.args.stand.start c.args.lead
     (length c.args.out.now.items) us)) one in
