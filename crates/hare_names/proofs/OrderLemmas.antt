@@ -89,7 +89,8 @@ module _ {A : Type 0} (place : A → Place) where
   stand-rises f ws low high (p ∷ ps) u l s = (
     (λ q c. (let n = number-of ws (suc s.0) high ps q s.3 c in let a : suc s.0 ≤ n.number = n.least in let b : n.number < high = n.most in
         subst (λ x. is_before x (place q) ≡ true) (sym s.2)
-        (subst (λ x. is_before (place_of ws s.0) x ≡ true) (sym n.place_is) (is_before-place_of f ws s.0 n.number u (omega arith) (omega arith))))),
+        (subst (λ x. is_before (place_of ws s.0) x ≡ true) (sym n.place_is)
+        (is_before-place_of f ws s.0 n.number u (omega arith) (omega arith))))),
     stand-rises f ws (suc s.0) high ps u l s.3,
   )
 
@@ -362,7 +363,8 @@ ordered number tree h = record {
 
     stands : StandIn path_place k.ws k.first k.high (flat_map paths_of tree.decls)
     stands = stand-decls tree.file k.ws k.first k.high
-        (begins_led le.Nothing k.first (spells 0 (nodes_of tree.decls))) tree.decls k.turns (all_have_forms so.Decl tree.decls k.shaped) k.placed
+        (begins_led le.Nothing k.first (spells 0 (nodes_of tree.decls))) tree.decls k.turns
+        (all_have_forms so.Decl tree.decls k.shaped) k.placed
 
     paths-rise : (ps : List Path) → Ascending path_place ps → Rises ps
     paths-rise [] a = tt
