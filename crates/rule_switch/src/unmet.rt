@@ -49,7 +49,7 @@ pub(crate) fn unmet(
             Ok(at)
         }
         RowId::SwitchCovered => {
-            let met = is_covered(alloc, s, t)?;
+            let met = is_covered(s, t)?;
             Ok(unless(met, here))
         }
         RowId::SwitchRestFits => {

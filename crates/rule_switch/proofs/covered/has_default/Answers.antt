@@ -1,14 +1,13 @@
-use Rattle.std.proofs.Common.{arith}
-use Rattle.rule_switch.proofs.CoverLemmas.{default_here, default_next, default_end}
+use Rattle.std.proofs.Common.{sym, ◌∙◌}
+use Rattle.rule_switch.proofs.CoverLemmas.{default_here, default_next}
 use Rattle.rule_switch.proofs.covered.has_default.Goals as goal
 
 pub returns-then-is_default : goal.returns-then-is_default
-returns-then-is_default c = default_here c.args.labels.now c.loop-x.x-index c.x-item.result c.loop-x-test.true c.x-item.is
-    c.loop-x.invariant c.if-is_default.ensures
+returns-then-is_default c f o =
+    sym (c.loop-i.invariant f o
+    ∙ default_here f o c.args.kids.now c.loop-i.i c.in-Some.case.now c.in-Some.ensures.found c.if-is_default.ensures)
 
-pub loop-x-preserved : goal.loop-x-preserved
-loop-x-preserved c = default_next c.args.labels.now c.loop-x.x-index c.x-item.result c.loop-x-test.true c.x-item.is c.loop-x.invariant
-    c.if-is_default.ensures
-
-pub returns : goal.returns
-returns c = default_end c.args.labels.now c.loop-x.x-index (omega arith) c.loop-x.invariant
+pub loop-i-preserved : goal.loop-i-preserved
+loop-i-preserved c f o =
+    c.loop-i.invariant f o
+    ∙ default_next f o c.args.kids.now c.loop-i.i c.in-Some.case.now c.in-Some.ensures.found c.if-is_default.ensures

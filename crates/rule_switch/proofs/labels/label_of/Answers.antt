@@ -1,5 +1,5 @@
 use Rattle.std.proofs.Common.{sym, ◌∙◌}
-use Rattle.rule_switch.proofs.LabelLemmas.{label_text, label_number, label_none}
+use Rattle.rule_switch.proofs.LabelLemmas.{label_text, label_number}
 use Rattle.rule_switch.proofs.labels.label_of.Goals as goal
 
 pub returns-then-is_str : goal.returns-then-is_str
