@@ -1,3 +1,4 @@
+pub mod CountLemmas
 pub mod FileLemmas
 mod JudgeLemmas
 pub mod NameLemmas

@@ -1,7 +1,7 @@
 //! Reading all files of a program.
 
-ghost use Rattle.std.specs.Prelude.{◌≡◌, ℕ, ◌∷◌, [], ◌++◌, List, IfOk, IfErr, IfSome};
-ghost use Rattle.hx_io.specs.Causes.{CountsFile};
+ghost use Rattle.std.specs.Prelude.{◌≡◌, ℕ, ◌∷◌, [], ◌++◌, true, List, IfOk, IfErr, IsErrOf, IfSome};
+ghost use Rattle.hx_io.specs.Causes.{CountsFile, StopsAtFault};
 ghost use Rattle.harec_check.specs.Files.{AreTold};
 ghost use Rattle.harec_check.specs.Stops.{IsReadStop};
 
@@ -16,6 +16,7 @@ use std::alloc::Global;
 pub fn read_all<F: Files>(alloc: Global, paths: &[Text], files: &mut F) -> Result<Sources, Stopped>
     ensures ok { IfOk result (λ srcs. AreTold (F.content files.old) paths.now srcs × (F.faults files.new ≡ F.faults files.old)) }
     ensures err { IfErr result (IsReadStop (F.content files.old) paths.now (F.faults files.old) (F.faults files.new)) }
+    ensures last { StopsAtFault (F.faults files.old) (F.faults files.new) (F.last_failed files.new) }
     ensures same { (p : List ℕ) → F.content files.new p ≡ F.content files.old p }
 {
     let mut srcs = Sources::new(alloc);
@@ -40,6 +41,7 @@ fn read_one<F: Files>(
         IfSome (F.content files.old path.now) (λ told. src ≡ told)) }
     ensures same { (p : List ℕ) → F.content files.new p ≡ F.content files.old p }
     ensures count { CountsFile (F.faults files.old) (F.faults files.new) result }
+    ensures last { IsErrOf result FileError.Failed → F.last_failed files.new ≡ true }
 {
     let src = files.read(alloc, path)?;
     match srcs.push(src) {

@@ -1,6 +1,7 @@
 //! Files to a checked program.
 
 ghost use Rattle.std.specs.Prelude.{◌≡◌, ℕ, ◌≤◌, List, length, IfOk, IfErr};
+ghost use Rattle.hx_io.specs.Causes.{StopsAtFault};
 ghost use Rattle.harec_check.specs.Stops.{AreChecked, IsStop};
 
 use crate::files::read_all;
@@ -26,6 +27,9 @@ pub fn check<F: Files>(alloc: Global, paths: &[Text], files: &mut F) -> Result<S
     // A refused program has this first fault, and no other, with this line. A file was not read exactly where the count of faults rose;
     // from 2^64 - 1 it rises no more.
     ensures err { IfErr result (IsStop (F.content files.old) paths.now (F.faults files.old) (F.faults files.new)) }
+
+    // Where a read failed, just one did, and it was the last: no file is read behind one that failed.
+    ensures last { StopsAtFault (F.faults files.old) (F.faults files.new) (F.last_failed files.new) }
 
     // What the paths hold stays as it is.
     ensures same { (p : List ℕ) → F.content files.new p ≡ F.content files.old p }

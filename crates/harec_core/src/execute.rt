@@ -1,7 +1,7 @@
 //! Running the text of a file.
 
 ghost use Rattle.std.specs.Prelude.{◌≡◌, ℕ, ◌<◌, ◌-◌, ◌^◌, List, [], length, IfOk, IfErr, IfSome, IsTrue};
-ghost use Rattle.hx_io.specs.Causes.{CountsFile};
+ghost use Rattle.hx_io.specs.Causes.{StopsAtFault};
 ghost use Rattle.harec_words.specs.Commands.{AreArguments, Exec};
 ghost use Rattle.harec_words.specs.Faults.{fault_line, has_line};
 ghost use Rattle.harec_check.specs.Files.{AreTold};
@@ -57,6 +57,7 @@ pub fn execute<F: Files, I: Source, O: Sink>(
         }) paths.now result }
     ensures unread { LeavesInput (Exec units paths.now args.now) (found_answer result) input.old input.new }
     ensures leaves { LeavesOutput (Exec units paths.now args.now) (found_answer result) out.old out.new }
+    ensures last { StopsAtFault (F.faults files.old) (F.faults files.new) (F.last_failed files.new) }
     ensures same { (p : List ℕ) → F.content files.new p ≡ F.content files.old p }
 {
     let path = &paths[0];

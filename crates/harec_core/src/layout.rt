@@ -1,6 +1,7 @@
 //! Laying a file out.
 
 ghost use Rattle.std.specs.Prelude.{◌≡◌, ℕ, ◌<◌, ◌≤◌, ◌-◌, ◌^◌, List, [], ◌∷◌, length, IfOk, IfErr};
+ghost use Rattle.hx_io.specs.Causes.{StopsAtFault};
 ghost use Rattle.hare_sources.specs.Files.{most_of_file};
 ghost use Rattle.harec_words.specs.Commands.{Fmt};
 ghost use Rattle.harec_check.specs.Files.{AreTold};
@@ -53,6 +54,7 @@ pub fn lay_out<F: Files, O: Sink>(
           out = sent (O.faults out.old) (O.faults out.new) (O.written out.old) (O.written out.new);
         }) paths.now result) }
     ensures leaves { LeavesOutput (Fmt paths.now) (found_answer result) out.old out.new }
+    ensures last { StopsAtFault (F.faults files.old) (F.faults files.new) (F.last_failed files.new) }
     ensures same { (p : List ℕ) → F.content files.new p ≡ F.content files.old p }
 {
     let srcs = read_all(alloc, paths, files)?;

@@ -1,6 +1,7 @@
 //! The top call: from words and files to an answer.
 
 ghost use Rattle.std.specs.Prelude.{◌≡◌, ℕ, ◌<◌, ◌-◌, ◌^◌, ◌↔◌, ◌⊎◌, List, []};
+ghost use Rattle.hx_io.specs.Causes.{StopsAtFault};
 ghost use Rattle.harec_words.specs.Commands.{AreFiles, Command, IsCommand, IsNoCommand};
 ghost use Rattle.harec_check.specs.Files.{AreTold};
 ghost use Rattle.harec_core.specs.declared.answer.Answer.{Answer};
@@ -68,6 +69,9 @@ pub fn harec<F: Files, I: Source, O: Sink, L: Sink>(
     // A file fault comes exactly where reading a file failed, and the log did not.
     ensures file_fault { (result ≡ answer.FileFault)
         ↔ ((F.faults files.old < F.faults files.new) × (L.faults log.new ≡ L.faults log.old)) }
+
+    // Where a read of a file failed, just one did, and it was the last: no file is read behind one that failed.
+    ensures last { StopsAtFault (F.faults files.old) (F.faults files.new) (F.last_failed files.new) }
 
     // A read fault comes exactly where the input failed, and the log did not.
     ensures read_fault { (result ≡ answer.ReadFault)
@@ -152,6 +156,7 @@ fn answer_to<F: Files, I: Source, O: Sink>(
         }) task.entry.files.now result }
     ensures unread { LeavesInput (command_of task.entry) (found_answer result) input.old input.new }
     ensures leaves { LeavesOutput (command_of task.entry) (found_answer result) out.old out.new }
+    ensures last { StopsAtFault (F.faults files.old) (F.faults files.new) (F.last_failed files.new) }
     ensures same { (p : List ℕ) → F.content files.new p ≡ F.content files.old p }
 {
     match task.action {
@@ -195,6 +200,7 @@ fn checked<F: Files, I: Source, O: Sink>(
         }) paths.now result }
     ensures unread { LeavesInput (command_on paths.now purpose.entry) (found_answer result) input.old input.new }
     ensures leaves { LeavesOutput (command_on paths.now purpose.entry) (found_answer result) out.old out.new }
+    ensures last { StopsAtFault (F.faults files.old) (F.faults files.new) (F.last_failed files.new) }
     ensures same { (p : List ℕ) → F.content files.new p ≡ F.content files.old p }
 {
     let srcs = check(alloc, paths, files)?;

@@ -1,5 +1,6 @@
 use Rattle.std.proofs.Common.{List, ℕ, [], ◌∷◌, refl, sym, subst}
 use Rattle.std.proofs.lemmas.Result.{err_from_is_err_and}
+use Rattle.harec_check.proofs.CountLemmas.{Rose-one_more, StopsAtFault-one_more, StopsAtFault-stands}
 use Rattle.harec_check.specs.declared.stopped.Stopped.TheVariants.{Unread, Memory}
 use Rattle.harec_core.specs.Stages.{IsTextRefusal}
 use Rattle.harec_core.proofs.CausesOfAnswers.Causes.{read_stop_found, silent}
@@ -14,7 +15,7 @@ returns-in-Err-Failed-clause-cause g c =
     let risen = rw c.in-Err-Failed.field-0-is at c.in-Err-Failed.ensures.count.cause in
     let (srcs, told, found) =
     read_stop_found (g.F.Files.content c.args.files.now) c.args.paths.now _ _ c.requires.count_of_files _ _ (silent _ _) (Unread 0)
-    (unread_one _ c.args.paths.now c.index-paths-0.result one _ _ risen) in
+    (unread_one _ c.args.paths.now c.index-paths-0.result one _ _ (Rose-one_more _ _ risen)) in
     (srcs, told, found _ _ _ c.requires.empty refl)
 
 pub returns-in-Err-Memory-clause-cause : goal.returns-in-Err-Memory-clause-cause
@@ -72,3 +73,26 @@ returns-clause-unread g c = ran_unread _ _ c.in_ok-ran.ran.end
 
 pub returns-clause-leaves : goal.returns-clause-leaves
 returns-clause-leaves g c = exec_leaves _ _ c.args.units c.args.paths.now c.args.args.now c.in_ok-ran.ran.end
+
+-- ---- the one read
+
+pub returns-in-Err-Failed-clause-last : goal.returns-in-Err-Failed-clause-last
+returns-in-Err-Failed-clause-last g c =
+    let risen = rw c.in-Err-Failed.field-0-is at c.in-Err-Failed.ensures.count.cause in
+    StopsAtFault-one_more _ _ _ risen (rw c.in-Err-Failed.field-0-is at c.in-Err-Failed.ensures.last)
+
+pub returns-in-Err-Memory-clause-last : goal.returns-in-Err-Memory-clause-last
+returns-in-Err-Memory-clause-last g c =
+    StopsAtFault-stands _ _ _ (rw c.in-Err-Memory.field-0-is at c.in-Err-Memory.ensures.count.cause)
+
+pub returns-in-Err-Fault-clause-last : goal.returns-in-Err-Fault-clause-last
+returns-in-Err-Fault-clause-last g c = StopsAtFault-stands _ _ _ c.in-Ok.ensures.count.cause
+
+pub returns-in-Err-Memory-module_of-clause-last : goal.returns-in-Err-Memory-module_of-clause-last
+returns-in-Err-Memory-module_of-clause-last g c = StopsAtFault-stands _ _ _ c.in-Ok.ensures.count.cause
+
+pub returns-in_err-ran-clause-last : goal.returns-in_err-ran-clause-last
+returns-in_err-ran-clause-last g c = StopsAtFault-stands _ _ _ c.in-Ok.ensures.count.cause
+
+pub returns-clause-last : goal.returns-clause-last
+returns-clause-last g c = StopsAtFault-stands _ _ _ c.in-Ok.ensures.count.cause

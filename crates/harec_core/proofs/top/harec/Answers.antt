@@ -1,4 +1,5 @@
 use Rattle.std.proofs.Common.{◌≢◌, refl}
+use Rattle.harec_check.proofs.CountLemmas.{StopsAtFault-stands}
 use Rattle.harec_core.specs.declared.answer.Answer.TheVariants.{Usage, FileFault, ReadFault, WriteFault}
 use Rattle.harec_core.proofs.CausesOfAnswers.Answering.{HasRoom, answered_is, found_answers, found_file_fault, found_read_fault}
 use Rattle.harec_core.proofs.CausesOfAnswers.Answering.{found_usage, write_fault_where}
@@ -84,3 +85,6 @@ returns-clause-command g c = λ command w.
 
 pub tell-requires-clause-brings : goal.tell-requires-clause-brings
 tell-requires-clause-brings g c = let found = c.answer_to-found.ensures.cause.2 in (found.text, found.line)
+
+pub returns-in_default-clause-last : goal.returns-in_default-clause-last
+returns-in_default-clause-last g c = StopsAtFault-stands _ _ _ refl
