@@ -1,7 +1,7 @@
 pub mod Verdicts
 pub mod Asked
 pub mod SettlingNothing
-pub mod Found
+pub mod FoundOfNode
 pub mod BindingsSeen
 pub mod YieldsSeen
 pub mod Behind

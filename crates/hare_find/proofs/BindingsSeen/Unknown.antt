@@ -11,7 +11,7 @@ use Rattle.hare_rules.specs.Table.{rows_of, asked as last_rows}
 use Rattle.hare_rules.specs.Rows.{holds, odd_place, binding_place_of, rows_in_role}
 use Rattle.hare_rules.specs.Judged.{IsRefusal}
 use Rattle.hare_find.specs.Looked.{MeansLocal}
-use Rattle.hare_find.proofs.Found.Judged.{judged_role}
+use Rattle.hare_find.proofs.FoundOfNode.Judged.{judged_role}
 
 first_unknown : (c : Context) (rest : List RowId) → holds asked.PathBindingKnown c ≡ false →
     find (λ r. not (holds r c)) (asked.PathBindingKnown ∷ rest) ≡ Some asked.PathBindingKnown

@@ -25,7 +25,7 @@ use Rattle.hare_told.specs.Told.{has_judge, told_label}
 use Rattle.hare_told.proofs.Labels.{blank, block_meant-blanks}
 use Rattle.hare_walk.specs.Walks.{AreInHand}
 use Rattle.hare_find.specs.Looked.{IsVoidTaken, IsYield, MeansInside}
-use Rattle.hare_find.proofs.Found.Judged.{judged_role}
+use Rattle.hare_find.proofs.FoundOfNode.Judged.{judged_role}
 
 -- ---- what it means
 

@@ -18,8 +18,8 @@ use Rattle.hare_find.specs.Listed.{yields_listed}
 use Rattle.hare_find.proofs.Asked.AtTurn.{asked-at}
 use Rattle.hare_find.specs.Settling.{option_in}
 use Rattle.hare_find.proofs.Verdicts.Next.{ready_stays}
-use Rattle.hare_find.proofs.Found.Settled.{AreSettled, settled_many, settled_defined, listed_defined}
-use Rattle.hare_find.proofs.Found.Judged.{found_judged, turned_back}
+use Rattle.hare_find.proofs.FoundOfNode.Settled.{AreSettled, settled_many, settled_defined, listed_defined}
+use Rattle.hare_find.proofs.FoundOfNode.Judged.{found_judged, turned_back}
 use Rattle.hare_find.proofs.finding.find_judged.Goals as goal
 
 pub returns-in_err-v-clause-err : goal.returns-in_err-v-clause-err

@@ -6,7 +6,7 @@ use Rattle.rule_judge.proofs.TurnLemmas.{grown_trans}
 use Rattle.rule_judge.proofs.KidLemmas.{drop_past}
 use Rattle.hare_find.specs.Settling.{option_in}
 use Rattle.hare_find.specs.Listed.{listed_each, yields_listed}
-use Rattle.hare_find.proofs.Found.Settled.{length-options, length-listed_each}
+use Rattle.hare_find.proofs.FoundOfNode.Settled.{length-options, length-listed_each}
 use Rattle.hare_find.proofs.Verdicts.Next.{ready_stays, listed_put}
 use Rattle.hare_find.proofs.listed.list_kids.Goals as goal
 

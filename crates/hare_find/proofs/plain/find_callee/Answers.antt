@@ -1,6 +1,6 @@
 use Rattle.hare_tree.specs.Node.{head}
 use Rattle.hare_find.proofs.SettlingNothing.WithoutRows.{found_callee}
-use Rattle.hare_find.proofs.Found.Answers.{if_ok_weaker}
+use Rattle.hare_find.proofs.FoundOfNode.Answers.{if_ok_weaker}
 use Rattle.hare_find.proofs.plain.find_callee.Goals as goal
 
 pub returns-clause-ok : goal.returns-clause-ok

@@ -1,6 +1,6 @@
 use Rattle.hare_tree.specs.Node.{head}
 use Rattle.hare_find.proofs.SettlingNothing.WithoutRows.{found_plain}
-use Rattle.hare_find.proofs.Found.Answers.{if_ok_weaker}
+use Rattle.hare_find.proofs.FoundOfNode.Answers.{if_ok_weaker}
 use Rattle.hare_find.proofs.plain.find_plain.Goals as goal
 
 pub returns-clause-ok : goal.returns-clause-ok

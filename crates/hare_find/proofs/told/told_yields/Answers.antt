@@ -1,5 +1,5 @@
 use Rattle.std.proofs.Common.{map}
-use Rattle.hare_find.proofs.Found.Answers.{if_ok_weaker}
+use Rattle.hare_find.proofs.FoundOfNode.Answers.{if_ok_weaker}
 use Rattle.hare_flow.specs.Seen.{given_of}
 use Rattle.hare_find.proofs.YieldsSeen.Told.{void_here, givens_stay}
 use Rattle.hare_find.proofs.told.told_yields.Goals as goal

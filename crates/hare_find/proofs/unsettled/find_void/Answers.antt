@@ -1,4 +1,4 @@
-use Rattle.hare_find.proofs.Found.Answers.{if_ok_weaker}
+use Rattle.hare_find.proofs.FoundOfNode.Answers.{if_ok_weaker}
 use Rattle.hare_find.proofs.unsettled.find_void.Goals as goal
 
 pub returns-clause-found : goal.returns-clause-found
